@@ -1,0 +1,4 @@
+mod SignRule
+mod Refusing
+mod Segments
+mod GateRule

@@ -53,8 +53,8 @@ module _ (f m : ℕ) where
   un-down h (pos a) P l u k = absurd (omega (arith, ints))
   un-down h (negsuc a) P l u k = k a (omega (arith, ints)) (omega (arith, ints))
 
-many-pos : (c : ℕ) → 0 < step-of c
-many-pos c = grind (arith, tells)
+step-pos : (c : ℕ) → 0 < step-of c
+step-pos c = grind (arith, tells)
 
 first-top : (c : ℕ) → c < 896 → first-of c + step-of c ≤ 8192
 first-top c h = grind (arith, tells)
@@ -115,7 +115,16 @@ back v w e i =
     (λ c h q. pos-cell c h (λ z n. z ≤ℤ v → v <ℤ (z +ℤ pos n) → gate-word v ≡ w)
     (λ l u. un-up (first-of c) (step-of c) v (λ v. gate-word v ≡ w) l u (λ a lo hi. again (pos a) w e (front-pos a ∙ ap (λ n. 128 + n) (code-back a c h lo hi) ∙ sym q))))
     (λ c h q. neg-cell c h (λ z n. z ≤ℤ v → v <ℤ (z +ℤ pos n) → gate-word v ≡ w)
-    (λ l u. un-down (first-of c) (step-of c) (many-pos c) v (λ v. gate-word v ≡ w) l u (λ a lo hi. again (negsuc a) w e (front-neg a ∙ ap (λ n. 1152 + n) (code-back a c h lo hi) ∙ sym q))))
+    (λ l u. un-down (first-of c) (step-of c) (step-pos c) v (λ v. gate-word v ≡ w) l u (λ a lo hi. again (negsuc a) w e (front-neg a ∙ ap (λ n. 1152 + n) (code-back a c h lo hi) ∙ sym q))))
+    (i .from) (i .upto)
+
+within : (v : ℤ) (w : ℕ) → gate-refusal w ≡ 0 → InCell variant-b w v → Inside variant-b v
+within v w e i =
+    forms w e (λ x. gate-low x ≤ℤ v → v <ℤ (gate-low x +ℤ pos (gate-width x)) → Inside variant-b v)
+    (λ c h q. pos-cell c h (λ z n. z ≤ℤ v → v <ℤ (z +ℤ pos n) → Inside variant-b v)
+    (λ l u. let t = first-top c h in record { above = omega (arith, ints, t); below = omega (arith, ints, t) }))
+    (λ c h q. neg-cell c h (λ z n. z ≤ℤ v → v <ℤ (z +ℤ pos n) → Inside variant-b v)
+    (λ l u. let t = first-top c h in let p = step-pos c in record { above = omega (arith, ints, t); below = omega (arith, ints, t) }))
     (i .from) (i .upto)
 
 eleven-in : (v : ℤ) → Inside variant-b v → (128 ≤ front-of v % 1024) × (front-of v < 2048)
@@ -143,9 +152,9 @@ held w e =
     let p : Inside variant-b (gate-low (w / 2)) × InX (w / 2) (gate-low (w / 2)) =
     forms w e (λ x. Inside variant-b (gate-low x) × InX x (gate-low x))
     (λ c h q. pos-cell c h (λ z n. Inside variant-b z × ((z ≤ℤ z) × (z <ℤ (z +ℤ pos n))))
-    (inside-up (first-of c) (step-of c) (many-pos c) (first-top c h) .0, up (first-of c) (step-of c) (first-of c) (omega arith) (omega (arith, many-pos c))))
+    (inside-up (first-of c) (step-of c) (step-pos c) (first-top c h) .0, up (first-of c) (step-of c) (first-of c) (omega arith) (omega (arith, step-pos c))))
     (λ c h q. neg-cell c h (λ z n. Inside variant-b z × ((z ≤ℤ z) × (z <ℤ (z +ℤ pos n))))
-    (inside-up (first-of c) (step-of c) (many-pos c) (first-top c h) .1, down (first-of c) (step-of c) (first-of c + (step-of c - 1)) (omega arith) (omega (arith, many-pos c)))) in
+    (inside-up (first-of c) (step-of c) (step-pos c) (first-top c h) .1, down (first-of c) (step-of c) (first-of c + (step-of c - 1)) (omega arith) (omega (arith, step-pos c)))) in
     (p .0, record { from = p .1 .0; upto = p .1 .1 })
 
 named : (w : ℕ) → (gate-refusal w ≡ 0 → ⊥) → 7 ≤ gate-refusal w
@@ -159,6 +168,7 @@ gate-rule = record {
   few = omega arith;
   lies = lies;
   back = back;
+  within = within;
   short = short;
   read = read;
   held = held;

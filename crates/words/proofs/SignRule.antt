@@ -88,13 +88,30 @@ module _ (bits half width : ℕ) (hp : 0 < half) (wp : 0 < width) (few : bits �
   short : (v : ℤ) → Inside (signed bits half width) v → signed-word half width v < 2 ^ bits
   short v i = omega (arith, fit, word-below v i)
 
+  -- the top of a cell is no further than the last value
+  top : (n : ℕ) → n < half → n * width + width ≤ half * width
+  top n h = omega (arith, mul-le (n + 1) width half width (omega arith) (omega arith), add-mul n 1 width)
+
+  within : (v : ℤ) (w : ℕ) → _≡_ {A = ℕ} (cond (ltb w (2 * half)) 0 7) 0 → InCell (signed bits half width) w v → Inside (signed bits half width) v
+  within v w e i =
+      ⊎-elim
+      (λ lt. up (top w lt) (subst (λ (z : ℤ). z ≤ℤ v) (low-pos w lt) (i .from)) (subst (λ (z : ℤ). v <ℤ (z +ℤ pos width)) (low-pos w lt) (i .upto)))
+      (λ ge. down (top (w - half) (omega (arith, below-from w e))) (subst (λ (z : ℤ). z ≤ℤ v) (low-neg w ge) (i .from)) (subst (λ (z : ℤ). v <ℤ (z +ℤ pos width)) (low-neg w ge) (i .upto)))
+      (cases-lt w half)
+    where
+      up : w * width + width ≤ half * width → pos (w * width) ≤ℤ v → v <ℤ (pos (w * width) +ℤ pos width) → Inside (signed bits half width) v
+      up t l u = record { above = omega (arith, ints); below = omega (arith, ints) }
+
+      down : (w - half) * width + width ≤ half * width → negsuc ((w - half) * width + (width - 1)) ≤ℤ v → v <ℤ (negsuc ((w - half) * width + (width - 1)) +ℤ pos width) → Inside (signed bits half width) v
+      down t l u = record { above = omega (arith, ints); below = omega (arith, ints) }
+
   held : (w : ℕ) → _≡_ {A = ℕ} (cond (ltb w (2 * half)) 0 7) 0 → Inside (signed bits half width) (signed-low half width w) × InCell (signed bits half width) w (signed-low half width w)
   held w e = ⊎-elim
-      (λ lt. let p : w * width + width ≤ half * width = omega (arith, mul-le (w + 1) width half width (omega arith) (omega arith), add-mul w 1 width) in
+      (λ lt. let p = top w lt in
       subst (λ (z : ℤ). Inside (signed bits half width) z × InCell (signed bits half width) w z) (sym (low-pos w lt))
       (record { above = omega (arith, ints); below = omega (arith, ints) }, at-pos w (w * width) lt (omega arith) (omega arith)))
       (λ ge. let n : w - half < half = omega (arith, below-from w e) in
-      let p : (w - half) * width + width ≤ half * width = omega (arith, mul-le ((w - half) + 1) width half width (omega arith) (omega arith), add-mul (w - half) 1 width) in
+      let p = top (w - half) n in
       subst (λ (z : ℤ). Inside (signed bits half width) z × InCell (signed bits half width) w z) (sym (low-neg w ge))
       (record { above = omega (arith, ints); below = omega (arith, ints) }, at-neg w ((w - half) * width + (width - 1)) ge (omega arith) (omega arith)))
       (cases-lt w half)
@@ -110,6 +127,7 @@ module _ (bits half width : ℕ) (hp : 0 < half) (wp : 0 < width) (few : bits �
     few = few;
     lies = lies;
     back = back;
+    within = within;
     short = short;
     read = λ v i. known _ (word-below v i);
     held = held;

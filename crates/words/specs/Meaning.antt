@@ -35,6 +35,8 @@ pub record CellRule (m : Meaning) : Type 0 where
   pub lies : (v : ℤ) → Inside m v → InCell m (m .word v) v
   -- every value in the cell of a word has that word
   pub back : (v : ℤ) (w : ℕ) → m .refusal w ≡ 0 → InCell m w v → m .word v ≡ w
+  -- and is one of the law's values
+  pub within : (v : ℤ) (w : ℕ) → m .refusal w ≡ 0 → InCell m w v → Inside m v
   -- words fit the word length
   pub short : (v : ℤ) → Inside m v → m .word v < 2 ^ m .bits
   -- the word of a value is read

@@ -1,4 +1,5 @@
 // What the console answers, as a line of text.
+use guards::locator::Found;
 use std::fmt;
 use words::Layer;
 use words::Refusal;
@@ -12,6 +13,8 @@ pub enum Reply {
     Value(i32),
     Words(Vec<u16>),
     Values(Vec<i32>),
+    Ranges(u8, u8),
+    Located(Found),
 }
 
 fn layer_name(layer: Layer) -> &'static str {
@@ -50,6 +53,10 @@ pub impl fmt::Display for Reply as ReplyDisplay {
             Reply::Value(value) => write!(f, "value {value}"),
             Reply::Words(words) => listed(f, "words", words.as_slice()),
             Reply::Values(values) => listed(f, "values", values.as_slice()),
+            Reply::Ranges(basic, additional) => write!(f, "ranges {basic} {additional}"),
+            Reply::Located(Found::Clean) => write!(f, "clean"),
+            Reply::Located(Found::At(position)) => write!(f, "at {position}"),
+            Reply::Located(Found::Nowhere) => write!(f, "nowhere"),
         }
     }
 }

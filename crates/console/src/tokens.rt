@@ -71,6 +71,32 @@ impl<'a> Tokens<'a> {
         Ok(all)
     }
 
+    // Thirty-three samples: a block and its follower.
+    pub(crate) fn samples(&mut self) -> Result<[i32; 33], ConsoleFault> {
+        let mut samples = [0; 33];
+        for sample in samples.iter_mut() {
+            *sample = i32::from(self.number::<i16>()?);
+        }
+        Ok(samples)
+    }
+
+    // So many bits, at most 32, the first one highest.
+    pub(crate) fn bits(&mut self, count: usize) -> Result<u32, ConsoleFault> {
+        let word = self.word()?;
+        if word.len() != count {
+            return Err(ConsoleFault::NoCommand);
+        }
+        let mut bits = 0;
+        for byte in word.bytes() {
+            bits = match byte {
+                b'0' => bits << 1,
+                b'1' => bits << 1 | 1,
+                _ => return Err(ConsoleFault::NoCommand),
+            };
+        }
+        Ok(bits)
+    }
+
     pub(crate) fn law(&mut self) -> Result<Law, ConsoleFault> {
         match Law::named(self.word()?) {
             Some(law) => Ok(law),

@@ -5,9 +5,9 @@ mod faults;
 mod law;
 mod linear;
 mod lists;
-mod magnitude;
 mod ranged;
 mod signed;
+mod signs;
 mod variant_b;
 
 pub use faults::Layer;
@@ -24,6 +24,7 @@ pub use ranged::Additional;
 pub use ranged::AdditionalLaw;
 pub use ranged::Basic;
 pub use ranged::BasicLaw;
+pub use signs::magnitude;
 pub use variant_b::VariantB;
 pub use variant_b::VariantBLaw;
 pub use variant_b::VariantBOutlet;

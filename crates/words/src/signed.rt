@@ -5,7 +5,7 @@ ghost use Prim.Native.Nat.{_+_, _-_, _*_, _^_, _<_, _≤_};
 ghost use Rattle.words.specs.Answers.{answer, making, reading};
 ghost use Rattle.words.specs.Signed.{signed};
 use crate::faults::WordFault;
-use crate::magnitude::magnitude;
+use crate::signs::magnitude;
 
 // A power of two as a width.
 fn width_of(exponent: u8) -> u32

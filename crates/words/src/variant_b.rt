@@ -6,7 +6,7 @@ ghost use Rattle.words.specs.VariantB.{variant-b, code-of, first-of, step-of, 
 use crate::faults::WordFault;
 use crate::law::Outlet;
 use crate::law::WordLaw;
-use crate::magnitude::magnitude;
+use crate::signs::magnitude;
 
 /// The words that neighbours exchange.
 #[derive(Clone, Copy)]

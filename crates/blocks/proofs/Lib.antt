@@ -1,0 +1,4 @@
+mod Places
+mod Peaked
+mod Made
+pub mod Ranging

@@ -1,0 +1,12 @@
+pub mod Counts
+pub mod Tables
+pub mod Bounded
+pub mod Linear
+pub mod Quotients
+pub mod Masks
+pub mod Rows
+pub mod Laws
+pub mod Checked
+pub mod Locating
+pub mod Guarding
+pub mod Groups

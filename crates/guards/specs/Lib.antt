@@ -1,0 +1,9 @@
+pub mod Bits
+pub mod Words
+pub mod Parities
+pub mod RangeCodes
+pub mod OfRanges
+pub mod RangeWord
+pub mod Division
+pub mod Codes
+pub mod Located

@@ -1,4 +1,4 @@
-mod Places
+pub mod Places
 mod Peaked
 mod Made
 pub mod Ranging

@@ -12,7 +12,7 @@ use Rattle.guards.specs.Codes.{alone, Position, Code}
 use Rattle.guards.specs.Located.{position-of, located, One-flipped}
 use Rattle.guards.specs.RangeWord.{range-syndrome, range-word-syndrome}
 use Rattle.guards.proofs.Laws.{range-law, inverted}
-use Rattle.guards.specs.declared.locator.Found.the-variants.{Clean, At, Nowhere}
+use Rattle.guards.specs.declared.locator.Found.the-variants.{At, Nowhere}
 
 -- sums with nothing, and with one entry that counts
 total-none : (f : ℕ → ℕ) (a n : ℕ) → ((x : ℕ) → a ≤ x → x < a + n → f x ≡ 0) → total f a n ≡ 0
@@ -63,9 +63,6 @@ module _ {n : ℕ} {s : ℕ → ℕ} (law : Code n s) where
 
     pub flipped-nowhere : ((k : ℕ) → Position n k → s (alone n k) ≡ x → ⊥) → One-flipped n s x Nowhere
     flipped-nowhere none sent j q z f = absurd (none j q (sym (f ∙ one-flipped sent j z)))
-
-    pub flipped-clean : x ≡ 0 → One-flipped n s x Clean
-    flipped-clean e sent j q z f = absurd (law .heard j q (sym (f ∙ one-flipped sent j z) ∙ e))
 
 -- a range word sent clean with one bit flipped
 pub range-word-flipped : (sent k : ℕ) → range-word-syndrome sent ≡ 0 → range-word-syndrome (bitXor sent (alone 12 k)) ≡ range-syndrome (alone 12 k)

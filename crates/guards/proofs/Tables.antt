@@ -1,4 +1,4 @@
--- The constant tables keep their rules, each by one test over the whole table.
+-- The tables of codes and of ranges keep their rule, each by one test over the whole table.
 use mathlib.Core.Path.{_≡_, refl}
 use mathlib.Core.List.{List, [], _∷_}
 use mathlib.Core.Bool.{Bool, true}

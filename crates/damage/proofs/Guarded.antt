@@ -8,7 +8,7 @@ use lib.Dec.{eqb, ltb}
 use Rattle.std.specs.Iters.{counting}
 use Rattle.guards.specs.Parities.{fronts}
 use Rattle.frames.specs.Places.{Holds, range-bit, check-bit, Is-block, Is-sample, travels, place}
-use Rattle.frames.proofs.Counts.{same-at}
+use Rattle.guards.proofs.Counts.{same-at}
 use Rattle.damage.proofs.Hits.{spread-test, Spread, spread-by-test}
 
 abbrev pub in-row : {X : Type 0} → (ℕ → ℕ → X) → (ℕ → X) → ℕ → X

@@ -12,8 +12,9 @@ use Rattle.std.proofs.shelf.Tests.{and-parts, ltb-true, eqb-true, cases-order, 
 use Rattle.frames.specs.Places.{Holds, sample-bit, range-bit, check-bit, service-bit, spare-bit, index}
 use Rattle.frames.specs.Frame.{bit-at}
 use Rattle.damage.specs.Damage.{One-octet}
-use Rattle.frames.proofs.Counts.{below, each}
-use Rattle.frames.proofs.Rows.{Bits, bit-at-bit}
+use Rattle.guards.proofs.Counts.{below, each}
+use Rattle.guards.proofs.Rows.{Bits}
+use Rattle.frames.proofs.Rows.{bit-at-bit}
 use Rattle.damage.proofs.Off.{One-off, one-off}
 
 -- how many frames after its pair's own a bit travels, the frame that it travels in, and the bit as heard there

@@ -13,8 +13,9 @@ use Rattle.guards.specs.Parities.{bits-of, guards, guard-bit, guard-of, fronts}
 use Rattle.frames.specs.Places.{Holds, range-bit, check-bit, Is-block, Is-sample, travels, lies, place, index}
 use Rattle.frames.specs.Frame.{Pair, heard-pair}
 use Rattle.damage.specs.Damage.{One-octet, Near, Hurt, whole, hurt, Range-hurt, range-whole, range-hurt-at, Block-hurt, guard-at, touched, Hardly-hurt, One-octet-hardly-hurts}
-use Rattle.frames.proofs.Counts.{same-at, below, each}
-use Rattle.frames.proofs.Rows.{Bits, number-same, bit-of-number, bit-at-bit}
+use Rattle.guards.proofs.Counts.{same-at, below, each}
+use Rattle.guards.proofs.Rows.{Bits, number-same, bit-of-number}
+use Rattle.frames.proofs.Rows.{bit-at-bit}
 use Rattle.damage.proofs.Off.{One-off, same, off, number-flip}
 use Rattle.damage.proofs.Hits.{ahead, in-frame, in-frame-is, heard-bit, one-octet-off, octet-of, Struck}
 use Rattle.damage.proofs.Guarded.{in-row, guarded, guarded-spread, range-spread, behind, behind-spread}

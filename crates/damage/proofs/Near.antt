@@ -4,7 +4,7 @@ use Prim.Native.Nat.{ℕ, zero, suc, _+_, _-_, _*_, _/_, _%_, _^_, _<_, _≤_}
 use native.Mathlib.Omega.{arith}
 use Rattle.guards.specs.Bits.{number}
 use Rattle.damage.specs.Damage.{Near}
-use Rattle.frames.proofs.Rows.{Bits, number-same, number-below}
+use Rattle.guards.proofs.Rows.{Bits, number-same, number-below}
 use Rattle.damage.proofs.Off.{One-off, same, off}
 
 -- one bit of the last five is worth at most 16

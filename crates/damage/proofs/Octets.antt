@@ -9,7 +9,7 @@ use Rattle.std.specs.Iters.{counting}
 use Rattle.std.proofs.shelf.Tests.{leb-true}
 use Rattle.frames.specs.Places.{Holds, Is-block, lies}
 use Rattle.damage.specs.Damage.{covered, is-range-bit, in-octet, Little-in-octet, Octets-hold-little}
-use Rattle.frames.proofs.Counts.{same-at, below, each}
+use Rattle.guards.proofs.Counts.{same-at, below, each}
 
 abbrev guarded-in : ℕ → ℕ → ℕ → ℕ
 guarded-in block later octet = in-octet (λ h. cond (ltb 0 (covered block later h)) 1 0) octet

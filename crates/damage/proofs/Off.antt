@@ -8,7 +8,7 @@ use lib.Bits.{bitXor, xor-block, xor-zero-r}
 use Rattle.std.proofs.shelf.Bits.{pow-add}
 use borrow.Author.Count.{below-more}
 use Rattle.guards.specs.Bits.{number}
-use Rattle.frames.proofs.Rows.{Bits, number-same, last-or-before}
+use Rattle.guards.proofs.Rows.{Bits, number-same, last-or-before}
 
 -- f and g agree on the first n places, or at all of them but one, of which P is known and where one has 0 and the other 1
 pub data One-off (P : ℕ → Type 0) (f g : ℕ → ℕ) (n : ℕ) : Type 0 where

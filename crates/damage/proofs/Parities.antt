@@ -10,8 +10,8 @@ use Rattle.std.specs.Iters.{counting}
 use Rattle.std.proofs.shelf.Tests.{and-parts, ltb-true, leb-true, eqb-true}
 use Rattle.guards.specs.Bits.{total}
 use Rattle.guards.specs.Parities.{guard-bit}
-use Rattle.frames.proofs.Counts.{same-at, below, each}
-use Rattle.frames.proofs.Rows.{Bits, last-or-before}
+use Rattle.guards.proofs.Counts.{same-at, below, each}
+use Rattle.guards.proofs.Rows.{Bits, last-or-before}
 use Rattle.damage.proofs.Guarded.{in-row}
 
 -- sums of rows

@@ -15,7 +15,7 @@ use Rattle.std.proofs.shelf.Lists.{getD-past}
 use Rattle.std.proofs.shelf.Tests.{cases-eq, cases-lt, cases-order, cond-true, cond-false, cond-both, eq-eqb, ne-eqb, eqb-true, eqb-false, lt-ltb, le-ltb}
 use Rattle.guards.specs.Bits.{number, bit-in}
 use Rattle.frames.specs.Sheet.{bit-of, bit-of-cell, start-of, half-of, offset-in, over}
-use Rattle.frames.proofs.Rows.{Bits}
+use Rattle.guards.proofs.Rows.{Bits}
 
 set-by : (xs : List ℕ) (i v c : ℕ) → i < length xs → (c ≡ i) ⊎ (c ≡ i → ⊥) → getD (set xs i v) c 0 ≡ cond (eqb c i) v (getD xs c 0)
 set-by xs i v c h (inl e) = ap (λ j. getD (set xs i v) j 0) e ∙ rw getD-set-same (sym (cond-true (eqb c i) v (getD xs c 0) (eq-eqb c i e)))

@@ -1,4 +1,3 @@
-pub mod Counts
 pub mod Rows
 pub mod Turns
 pub mod Reading

@@ -12,7 +12,8 @@ use Rattle.guards.specs.Bits.{number, bit-in}
 use Rattle.guards.specs.Parities.{bits-of}
 use Rattle.frames.specs.Places.{Holds, sample-bit, range-bit, check-bit, service-bit, spare-bit, Is-block, Is-sample, delay, travels, lies, lies-at, index}
 use Rattle.frames.specs.Frame.{Pair, Well-coded, Same-pair, carried, octets-of, bit-at, heard, woven, frame-of, blank, before, frame, heard-pair, Reads-back, Three-frames-decide}
-use Rattle.frames.proofs.Rows.{Bits, number-same, number-of-bits, read-back}
+use Rattle.guards.proofs.Rows.{Bits, number-same}
+use Rattle.frames.proofs.Rows.{number-of-bits, read-back}
 use Rattle.frames.proofs.Turns.{Lies-there, sample-lies, check-lies, range-lies}
 
 pub carried-bit : (p : Pair) (h : Holds) → carried p h ≤ 1

@@ -13,8 +13,9 @@ use Rattle.frames.specs.Places.{Holds, sample-bit, range-bit, check-bit, servi
 use Rattle.frames.specs.Frame.{Pair, Same-pair, carried, octets-of, bit-at, heard-by, heard}
 use Rattle.frames.specs.Content.{Listed, listed}
 use Rattle.frames.specs.Answers.{ignored, Alike}
-use Rattle.frames.proofs.Counts.{same-at, same-map, below, each}
-use Rattle.frames.proofs.Rows.{number-same, packed-same, bit-of-number, bit-at-bit}
+use Rattle.guards.proofs.Counts.{same-at, same-map, below, each}
+use Rattle.guards.proofs.Rows.{number-same, bit-of-number}
+use Rattle.frames.proofs.Rows.{packed-same, bit-at-bit}
 use Rattle.frames.proofs.Turns.{Lies-there, sample-lies, check-lies, range-lies, index-of-lies}
 use Rattle.frames.proofs.Reading.{bit-of-octets}
 

@@ -14,7 +14,7 @@ use Rattle.frames.specs.Frame.{carried, heard-by}
 use Rattle.frames.specs.declared.content.Frame.{Frame}
 use Rattle.frames.specs.Content.{pair-in, Listed, listed}
 use Rattle.frames.specs.Sheet.{bit-of, bit-of-cell, start-of, half-of, offset-in, over}
-use Rattle.frames.proofs.Counts.{same-at}
+use Rattle.guards.proofs.Counts.{same-at}
 
 -- the tables of src/sheet.rt
 abbrev pub columns-A : List ℕ

@@ -9,7 +9,7 @@ use Rattle.std.proofs.shelf.Tests.{ltb-true}
 use Rattle.std.specs.Iters.{counting}
 use Rattle.guards.specs.Parities.{bits-of}
 use Rattle.frames.specs.Places.{Holds, sample-bit, range-bit, check-bit, Is-block, Is-sample, delay, travels, lies, lies-at, place, index}
-use Rattle.frames.proofs.Counts.{same-at}
+use Rattle.guards.proofs.Counts.{same-at}
 
 all-places : map (λ l. map (λ b. place (lies l b)) (counting 1 80)) (counting 1 8) ≡ map (λ l. map (λ b. (l, b)) (counting 1 80)) (counting 1 8)
 unfolding lies place

@@ -1,0 +1,5 @@
+pub mod Crossing
+pub mod Trial
+pub mod Tally
+pub mod Task
+pub mod Told

@@ -1,0 +1,4 @@
+pub mod Placed
+pub mod Weaving
+pub mod Outside
+mod Measured

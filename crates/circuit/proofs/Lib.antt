@@ -2,3 +2,5 @@ pub mod Placed
 pub mod Weaving
 pub mod Outside
 mod Measured
+pub mod Moves
+pub mod Frames

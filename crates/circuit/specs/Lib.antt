@@ -1,3 +1,4 @@
 pub mod Sending
 pub mod Faults
 pub mod Putting
+pub mod History

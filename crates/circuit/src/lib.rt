@@ -2,6 +2,7 @@
 mod coding;
 mod faults;
 mod pair;
+mod promises;
 mod sender;
 mod sent;
 
@@ -9,5 +10,6 @@ pub use coding::code;
 pub use faults::PairFault;
 pub use pair::PAIR;
 pub use pair::Pair;
+pub use promises::frames_are_the_standards;
 pub use sent::Sender;
 pub use sent::Sent;

@@ -1,10 +1,12 @@
 -- What lies at each bit of a frame, and where each bit lies.
 -- Groups count from 1 to 8, bits of a group from 1 to 80, blocks from 1 to 2, samples of a block from 1 to 32.
+use mathlib.Core.Path.{_≡_}
 use mathlib.Core.Bool.{Bool, true, false, cond}
 use mathlib.Core.List.{List, [], _∷_}
 use Prim.Native.Nat.{ℕ, _+_, _-_, _*_, _/_, _%_, _≤_}
 use lib.Dec.{eqb, ltb}
 use lib.ListN.{getD}
+use Rattle.guards.specs.Parities.{bits-of}
 
 pub record Is-block (block : ℕ) : Type 0 where
   pub from : 1 ≤ block
@@ -107,3 +109,10 @@ place (spare-bit l) = (l, 80)
 -- The same as a bit of the whole frame, from 0.
 abbrev pub index : Holds → ℕ
 index h = 80 * (place h .0 - 1) + (place h .1 - 1)
+
+-- What lies at a place and where a bit lies undo each other: at every place of a frame, and of every bit of a pair.
+pub record Places-undo-each-other : Type 0 where
+  pub places : (l b : ℕ) → 1 ≤ l → l ≤ 8 → 1 ≤ b → b ≤ 80 → place (lies l b) ≡ (l, b)
+  pub samples : (block n b : ℕ) → Is-block block → Is-sample n → 1 ≤ b → b ≤ bits-of n → lies-at (index (travels block n b)) ≡ travels block n b
+  pub ranges : (k : ℕ) → 1 ≤ k → k ≤ 12 → lies-at (index (range-bit k)) ≡ range-bit k
+  pub checks : (block k : ℕ) → Is-block block → 1 ≤ k → k ≤ 5 → lies-at (index (check-bit block k)) ≡ check-bit block k

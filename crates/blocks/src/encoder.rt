@@ -25,9 +25,9 @@ fn odd_samples(block: &Block) -> [i32; HALF]
 
 // The words of sixteen values that the law holds.
 fn words_of<L: WordLaw>(law: &L, values: &[i32; HALF]) -> [u16; HALF]
-    requires { (k : ℕ) → k < 16 → Inside (meaning law.now) (slice_index_or values.now k (pos 0)) }
-    ensures value { result ≡ map (meaning law.now).word values.now }
-    ensures short { (k : ℕ) → slice_index result k < 2 ^ (meaning law.now).bits }
+    requires { (k : ℕ) → k < 16 → Inside (L.WordLaw.meaning law.now) (slice_index_or values.now k (pos 0)) }
+    ensures value { result ≡ map (L.WordLaw.meaning law.now).word values.now }
+    ensures short { (k : ℕ) → slice_index result k < 2 ^ (L.WordLaw.meaning law.now).bits }
 {
     let mut words = [0; HALF];
     let _ = compand(law, values, &mut words);

@@ -1,5 +1,7 @@
 // One circuit: pairs of samples go out as frames, and frames that arrive, or are lost, come back as pairs of words. Sender and
 // receiver can be had apart; a `Circuit` is one of each, and its making carries what is promised of every history of calls.
+#![tactic(auto)]
+
 mod circuit;
 mod faults;
 mod held;

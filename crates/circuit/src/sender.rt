@@ -113,9 +113,9 @@ impl Sender {
         words: &[u16],
         frame: &mut [u8],
     ) -> Result<Sent, PairFault>
-        ensures state { source_of self.new ≡ (putting_words (source_of self.old) frame.old (meaning law.now) words.now).source }
-        ensures buffer { frame.new ≡ (putting_words (source_of self.old) frame.old (meaning law.now) words.now).frame }
-        ensures answer { answer result ≡ (putting_words (source_of self.old) frame.old (meaning law.now) words.now).answer }
+        ensures state { source_of self.new ≡ (putting_words (source_of self.old) frame.old (L.WordLaw.meaning law.now) words.now).source }
+        ensures buffer { frame.new ≡ (putting_words (source_of self.old) frame.old (L.WordLaw.meaning law.now) words.now).frame }
+        ensures answer { answer result ≡ (putting_words (source_of self.old) frame.old (L.WordLaw.meaning law.now) words.now).answer }
     {
         Sender::measure(words.len(), frame)?;
         let mut values = [0; PAIR];

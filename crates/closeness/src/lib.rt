@@ -1,5 +1,7 @@
 // How close sound samples stay to the samples sent: the promised bounds, by the ranges and by how far codes may be off.
 // Promise: the bounds hold of every received block, whatever was sent; and one hit that no guard bit covers moves a code by 16.
+#![tactic(auto)]
+
 ghost use Rattle.std.specs.Prelude.{◌≡◌, ◌^◌, ◌≤◌};
 ghost use Rattle.closeness.specs.Bounds.{odd_bound, even_bound, SoundSamplesStayClose};
 ghost use Rattle.closeness.specs.Codes.{WordsTellCodes};

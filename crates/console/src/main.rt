@@ -1,5 +1,7 @@
 // The console: one command a line on standard input, one answer a line on standard output. A bench for engineers, and the
 // way in which outside vectors are run. docs/CONSOLE.md has the commands.
+#![tactic(auto)]
+
 mod bench;
 mod calls;
 mod circuit_calls;

@@ -24,7 +24,8 @@ impl Follower {
     {
         match *self {
             Follower::Muted => own,
-            Follower::Concealed(level) | Follower::Sound(level) => i32::from(level),
+            Follower::Concealed(level) => i32::from(level),
+            Follower::Sound(level) => i32::from(level),
         }
     }
 

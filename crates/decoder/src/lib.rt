@@ -1,5 +1,7 @@
 // What a receiver makes of a received block: the verdict, the levels of its samples with what is hurt concealed, the samples
 // given, and which of them are sound. Whatever was sent, a sound sample lies near what the codes sent stand for.
+#![tactic(auto)]
+
 mod follower;
 mod judged;
 mod judging;

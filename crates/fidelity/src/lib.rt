@@ -1,5 +1,7 @@
 // How true a pair comes out of the line, by what befalls its four frames: theorems of the definitions, for whatever pairs are put and
 // whatever arrives. There is no code here; a circuit carries them to every history of its calls.
+#![tactic(auto)]
+
 ghost use Rattle.fidelity.specs.Crossing.{OneOctetHardlyHarms, NoDamageNoHarm};
 
 /// With one octet of its four frames damaged, however, no block of a pair is muted, few samples lack their mark, and those that

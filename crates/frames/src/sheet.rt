@@ -92,10 +92,10 @@ fn half_start(i: usize) -> usize
 // Writes the sixteen words of one of the samples A to D, one into each half of a group.
 fn write_words<L: WordLaw>(cells: &mut [u8], law: &L, columns: &[usize], words: &[u16; HALF])
     requires whole { length cells.old ≡ 632 }
-    requires sized { length columns.now ≡ (meaning law.now).bits }
+    requires sized { length columns.now ≡ (L.WordLaw.meaning law.now).bits }
     requires inside { (k : ℕ) → slice_index columns.now k < 38 }
     requires all { length words.now ≡ 16 }
-    ensures { (c : ℕ) → c < 632 → slice_index cells.new c ≡ over 0 columns.now (meaning law.now).bits (slice_index words.now (half_of c)) (meaning law.now).bits (offset_in c) (slice_index cells.old c) }
+    ensures { (c : ℕ) → c < 632 → slice_index cells.new c ≡ over 0 columns.now (L.WordLaw.meaning law.now).bits (slice_index words.now (half_of c)) (L.WordLaw.meaning law.now).bits (offset_in c) (slice_index cells.old c) }
 {
     let bits = law.word_length() as usize;
     for (i, word) in words.iter().enumerate() {
@@ -106,12 +106,12 @@ fn write_words<L: WordLaw>(cells: &mut [u8], law: &L, columns: &[usize], words: 
 // Reads such words.
 fn read_words<L: WordLaw>(cells: &[u8], law: &L, columns: &[usize]) -> [u16; HALF]
     requires whole { length cells.now ≡ 632 }
-    requires sized { length columns.now ≡ (meaning law.now).bits }
+    requires sized { length columns.now ≡ (L.WordLaw.meaning law.now).bits }
     requires inside { (k : ℕ) → slice_index columns.now k < 38 }
     requires binary { (c : ℕ) → slice_index cells.now c ≤ 1 }
     ensures all { length result ≡ 16 }
-    ensures value { (i : ℕ) → i < 16 → slice_index result i ≡ number (λ k. slice_index cells.now (start_of i + slice_index columns.now k)) (meaning law.now).bits }
-    ensures small { (i : ℕ) → slice_index result i < 2 ^ (meaning law.now).bits }
+    ensures value { (i : ℕ) → i < 16 → slice_index result i ≡ number (λ k. slice_index cells.now (start_of i + slice_index columns.now k)) (L.WordLaw.meaning law.now).bits }
+    ensures small { (i : ℕ) → slice_index result i < 2 ^ (L.WordLaw.meaning law.now).bits }
 {
     let bits = law.word_length() as usize;
     let mut words = [0; HALF];

@@ -2,6 +2,8 @@
 // `ranges` has the two ranges of a block and their code, `codes` the check codes with the range word and the checks,
 // `parities` the parities of a block's words, `locator` the one answer to a syndrome for every code, `mending` a received
 // range word put right.
+#![tactic(auto)]
+
 pub mod codes;
 pub mod locator;
 pub mod mending;

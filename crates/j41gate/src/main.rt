@@ -1,5 +1,7 @@
 // j41gate: takes sound across a border in words of J.41 variant B, or tries that and reports. Raw files come in on
 // standard input; the work on a pair is in functions with contracts, and this file only joins them.
+#![tactic(auto)]
+
 use crate::failure::Failure;
 use crate::task::Task;
 use std::{env, io};

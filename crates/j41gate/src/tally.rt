@@ -24,7 +24,7 @@ pub struct Tally {
 impl Tally {
     /// Nothing tried yet.
     pub fn new<L: WordLaw>(law: &L) -> Tally
-        ensures { result ≡ fresh (meaning law.now).bits }
+        ensures { result ≡ fresh (L.WordLaw.meaning law.now).bits }
     {
         Tally {
             bits: law.word_length(),

@@ -21,7 +21,7 @@ fn farthest(values: &[i32; PAIR], back: &[i32; PAIR]) -> u32
 
 /// The largest distance between a sample and what its word is read as; refused where a sample has no word.
 pub fn pass<L: WordLaw>(law: &L, samples: &[i16; PAIR]) -> Result<u32, WordFault>
-    ensures { answer result ≡ passing (meaning law.now) samples.now }
+    ensures { answer result ≡ passing (L.WordLaw.meaning law.now) samples.now }
 {
     let values = widen(samples);
     let mut words = [0; PAIR];

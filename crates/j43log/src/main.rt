@@ -1,5 +1,7 @@
 // j43log: frames of the line to a log of its pairs, two lines for each. What is logged of a pair is in a library with contracts, and
 // this program only joins reading and writing.
+#![tactic(auto)]
+
 use crate::failure::Failure;
 use crate::streams::log_all;
 use std::env;

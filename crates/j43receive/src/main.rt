@@ -1,5 +1,7 @@
 // j43receive: frames of the line to samples of a raw file. The work on a frame is in functions with contracts, and this file
 // only joins them.
+#![tactic(auto)]
+
 use crate::failure::Failure;
 use crate::streams::receive_all;
 use std::env;

@@ -1,5 +1,7 @@
 // j43send: samples of a raw file to frames of the line. The work on a pair is in functions with contracts, and this file
 // only joins them.
+#![tactic(auto)]
+
 use crate::failure::Failure;
 use crate::streams::send_all;
 use std::env;

@@ -1,4 +1,6 @@
 // Pairs of samples as they are sent: two blocks, each coded with the sample after it, and guarded.
+#![tactic(auto)]
+
 mod coding;
 mod pair;
 

@@ -13,7 +13,7 @@ pub const PAIR_OCTETS: usize = 2 * PAIR;
 
 /// The numbers that the octets of a pair stand for.
 pub fn read_pair<N: RawNumber>(octets: &[u8; PAIR_OCTETS]) -> [N; PAIR]
-    ensures { result ≡ map value (numbers_in octets.now) }
+    ensures { result ≡ map N.RawNumber.value (numbers_in octets.now) }
 {
     let mut numbers = [N::from_octets([0, 0]); PAIR];
     for i in 0..PAIR {
@@ -24,8 +24,8 @@ pub fn read_pair<N: RawNumber>(octets: &[u8; PAIR_OCTETS]) -> [N; PAIR]
 
 /// The octets of a pair of numbers, from which they are read again.
 pub fn write_pair<N: RawNumber>(numbers: &[N; PAIR]) -> [u8; PAIR_OCTETS]
-    ensures answer { result ≡ octets_in (map bits numbers.now) }
-    ensures back { map value (numbers_in result) ≡ numbers.now }
+    ensures answer { result ≡ octets_in (map N.RawNumber.bits numbers.now) }
+    ensures back { map N.RawNumber.value (numbers_in result) ≡ numbers.now }
 {
     let mut octets = [0; PAIR_OCTETS];
     for i in 0..PAIR {

@@ -1,4 +1,6 @@
 // What a receiver makes of frames: pairs are recorded as they arrive, judged once they are complete, and given.
+#![tactic(auto)]
+
 mod arrived;
 mod giving;
 mod record;

@@ -1,6 +1,8 @@
 // Word laws: how a value becomes a word of a few bits, and which value a word stands for.
 // The laws are linear, J.41 variant B, and the basic and additional laws of J.43. Each proves the cell rule of its
 // meaning, and the companding of whole lists is written once for all of them.
+#![tactic(auto)]
+
 mod faults;
 mod law;
 mod linear;

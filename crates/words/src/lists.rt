@@ -10,7 +10,7 @@ use crate::law::WordLaw;
 
 // Refused at the first value that the law has no word for.
 fn try_values<L: WordLaw>(law: &L, values: &[i32]) -> Result<(), WordFault>
-    ensures { answer result ≡ first_refused (unmade (meaning law.now)) 0 values.now }
+    ensures { answer result ≡ first_refused (unmade (L.WordLaw.meaning law.now)) 0 values.now }
 {
     for (i, value) in values.iter().enumerate() {
         if let Err(fault) = law.make(*value) {
@@ -22,8 +22,8 @@ fn try_values<L: WordLaw>(law: &L, values: &[i32]) -> Result<(), WordFault>
 
 /// Writes the word of each value.
 pub fn compand<L: WordLaw>(law: &L, values: &[i32], words: &mut [u16]) -> Result<(), WordFault>
-    ensures answer { answer result ≡ making_all (meaning law.now) values.now (length words.old) }
-    ensures buffer { words.new ≡ (if is_ok result then map (meaning law.now).word values.now else words.old) }
+    ensures answer { answer result ≡ making_all (L.WordLaw.meaning law.now) values.now (length words.old) }
+    ensures buffer { words.new ≡ (if is_ok result then map (L.WordLaw.meaning law.now).word values.now else words.old) }
 {
     if words.len() != values.len() {
         return Err(WordFault::WordRoom(words.len()));
@@ -39,7 +39,7 @@ pub fn compand<L: WordLaw>(law: &L, values: &[i32], words: &mut [u16]) -> Result
 
 // Refused at the first word that belongs to no value.
 fn try_words<L: WordLaw>(law: &L, words: &[u16]) -> Result<(), WordFault>
-    ensures { answer result ≡ first_refused (meaning law.now).refusal 0 words.now }
+    ensures { answer result ≡ first_refused (L.WordLaw.meaning law.now).refusal 0 words.now }
 {
     for (i, word) in words.iter().enumerate() {
         if let Err(fault) = law.read(*word) {
@@ -51,8 +51,8 @@ fn try_words<L: WordLaw>(law: &L, words: &[u16]) -> Result<(), WordFault>
 
 /// Writes the value of each word.
 pub fn expand<L: WordLaw>(law: &L, words: &[u16], values: &mut [i32]) -> Result<(), WordFault>
-    ensures answer { answer result ≡ reading_all (meaning law.now) words.now (length values.old) }
-    ensures buffer { values.new ≡ (if is_ok result then map (middle (meaning law.now)) words.now else values.old) }
+    ensures answer { answer result ≡ reading_all (L.WordLaw.meaning law.now) words.now (length values.old) }
+    ensures buffer { values.new ≡ (if is_ok result then map (middle (L.WordLaw.meaning law.now)) words.now else values.old) }
 {
     if values.len() != words.len() {
         return Err(WordFault::ValueRoom(values.len()));

@@ -22,23 +22,23 @@ joined samples r a q s b odds evens odd even er ea eq es eb eo ee e1 e2 =
     ∙ ap (λ (l : List ℕ). record { basic_of = basic_range samples; additional_of = additional_range samples; odd = l; even = even }) f1
     ∙ ap (λ (l : List ℕ). record { basic_of = basic_range samples; additional_of = additional_range samples; odd = map (basic (basic_range samples)).word (odd_samples samples); even = l }) f2
 
-pub words-of-odd-requires : goal.words-of-odd-requires
-words-of-odd-requires c = λ k h.
+pub words_of-odd-requires : goal.words_of-odd-requires
+words_of-odd-requires c = λ k h.
     let b = c.args.block.now in
     let r = c.searched-ranges.result.basic in
-    subst (λ (xs : List ℤ). Inside (basic c.basic-law.result.range) (get_or xs k (pos 0))) (sym c.odd-samples.ensures)
-    (subst (λ (q : ℕ). Inside (basic q) (get_or (odd_samples b.samples) k (pos 0))) (sym c.basic-law.ensures)
+    subst (λ (xs : List ℤ). Inside (basic c.basic_law.result.range) (get_or xs k (pos 0))) (sym c.odd_samples.ensures)
+    (subst (λ (q : ℕ). Inside (basic q) (get_or (odd_samples b.samples) k (pos 0))) (sym c.basic_law.ensures)
     (odd_inside b.samples b.all r c.searched-ranges.ensures.basic.holds k h))
 
-pub words-of-even-requires : goal.words-of-even-requires
-words-of-even-requires c = λ k h.
+pub words_of-even-requires : goal.words_of-even-requires
+words_of-even-requires c = λ k h.
     let b = c.args.block.now in
     let r = c.searched-ranges.result.basic in
     let a = c.searched-ranges.result.additional in
-    let law = c.additional-law.result in
+    let law = c.additional_law.result in
     subst (λ (xs : List ℤ). Inside (additional law.basic_range law.range) (get_or xs k (pos 0))) (sym c.differences-diffs.ensures)
-    (subst (λ (q : ℕ). Inside (additional q law.range) (get_or (differences b.samples) k (pos 0))) (sym c.additional-law.ensures.0)
-    (subst (λ (q : ℕ). Inside (additional r q) (get_or (differences b.samples) k (pos 0))) (sym c.additional-law.ensures.1)
+    (subst (λ (q : ℕ). Inside (additional q law.range) (get_or (differences b.samples) k (pos 0))) (sym c.additional_law.ensures.0)
+    (subst (λ (q : ℕ). Inside (additional r q) (get_or (differences b.samples) k (pos 0))) (sym c.additional_law.ensures.1)
     (even_inside b.samples b.all r a c.searched-ranges.ensures.additional.holds k h)))
 
 pub returns : goal.returns
@@ -46,11 +46,11 @@ returns c =
     let b = c.args.block.now in
     let r = c.searched-ranges.result.basic in
     let a = c.searched-ranges.result.additional in
-    let law = c.additional-law.result in
+    let law = c.additional_law.result in
     record {
-      value = joined b.samples r a c.basic-law.result.range law.basic_range law.range c.odd-samples.result c.differences-diffs.result c.words-of-odd.result c.words-of-even.result
+      value = joined b.samples r a c.basic_law.result.range law.basic_range law.range c.odd_samples.result c.differences-diffs.result c.words_of-odd.result c.words_of-even.result
           (basic_is b.samples r a c.searched-ranges.ensures) (additional_is b.samples r a c.searched-ranges.ensures)
-          c.basic-law.ensures c.additional-law.ensures.0 c.additional-law.ensures.1 c.odd-samples.ensures c.differences-diffs.ensures
-          c.words-of-odd.ensures.value c.words-of-even.ensures.value;
+          c.basic_law.ensures c.additional_law.ensures.0 c.additional_law.ensures.1 c.odd_samples.ensures c.differences-diffs.ensures
+          c.words_of-odd.ensures.value c.words_of-even.ensures.value;
       smallest = c.searched-ranges.ensures;
     }

@@ -9,10 +9,10 @@ pub loop-i-preserved : goal.loop-i-preserved
 loop-i-preserved c =
     let i = c.loop-i.i in
     let xs = c.loop-i.levels in
-    let x = c.word-level.result in
+    let x = c.word_level.result in
     let f : SFits w32 x = search rules in
     let h : i < length xs = omega arith in
     simp to_z-of_z (
-      filled_more (λ k z. z ≡ level c.args.range (code_of c.args.half (get_or c.args.words.now k 0))) xs i x (pos 0) h c.loop-i.invariant.0 c.word-level.ensures.value,
-      λ k. written (λ _ z. mag z < 2 ^ 17) xs i x (pos 0) h k (λ _. c.loop-i.invariant.1 k) c.word-level.ensures.small,
+      filled_more (λ k z. z ≡ level c.args.range (code_of c.args.half (get_or c.args.words.now k 0))) xs i x (pos 0) h c.loop-i.invariant.0 c.word_level.ensures.value,
+      λ k. written (λ _ z. mag z < 2 ^ 17) xs i x (pos 0) h k (λ _. c.loop-i.invariant.1 k) c.word_level.ensures.small,
     )

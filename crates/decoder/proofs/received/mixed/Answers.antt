@@ -14,7 +14,7 @@ loop-i-preserved c =
     let i = c.loop-i.i in
     let xs = c.loop-i.samples in
     let x = c.sample.result in
-    let y = c.even-sample.result in
+    let y = c.even_sample.result in
     let sides = c.args.sides.now in
     let shares = c.args.shares.now in
     let fx : SFits w32 x = search rules in
@@ -27,14 +27,14 @@ loop-i-preserved c =
     let len : 2 * i + 1 < length once = simp length-set h in
     let both = two_more (λ k. sample (get_or sides k (pos 0))) (λ k. sample (get_or shares k (pos 0) +ℤ mean (get_or sides k (pos 0)) (get_or sides (k + 1) (pos 0))))
     xs i x y (pos 0) h c.loop-i.invariant.1 c.loop-i.invariant.2
-    (simp to_z-of_z at c.sample.ensures.value) (simp to_z-of_z at c.even-sample.ensures.value) in
+    (simp to_z-of_z at c.sample.ensures.value) (simp to_z-of_z at c.even_sample.ensures.value) in
     simp to_z-of_z (
       length-set once (2 * i + 1) y ∙ length-set xs (2 * i) x ∙ c.loop-i.invariant.0,
       both.0,
       both.1,
       λ k. written (λ _ z. mag z < 2 ^ 13) once (2 * i + 1) y (pos 0) len k
           (λ _. written (λ _ z. mag z < 2 ^ 13) xs (2 * i) x (pos 0) (omega arith) k (λ _. c.loop-i.invariant.3 k) c.sample.ensures.small)
-          c.even-sample.ensures.small,
+          c.even_sample.ensures.small,
     )
 
 pub returns : goal.returns

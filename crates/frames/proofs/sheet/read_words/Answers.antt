@@ -13,10 +13,10 @@ loop-i-preserved g c =
     let i = c.loop-i.i in
     let low : i < length c.loop-i.words = omega (arith, c.loop-i.invariant.0) in
     let row : ℕ → ℕ → ℕ = λ start k. get_or c.args.cells.now (start + get_or c.args.columns.now k 0) 0 in
-    let v : c.read-bits.result ≡ f n i =
-    c.read-bits.ensures.value ∙ ap (λ s. number (row s) c.word-length-bits.result) c.half-start.ensures ∙ ap (λ m. f m i) c.word-length-bits.ensures in
-    let s : c.read-bits.result < 2 ^ n = subst (λ (m : ℕ). c.read-bits.result < 2 ^ m) c.word-length-bits.ensures c.read-bits.ensures.small in (
+    let v : c.read_bits.result ≡ f n i =
+    c.read_bits.ensures.value ∙ ap (λ s. number (row s) c.word_length-bits.result) c.half_start.ensures ∙ ap (λ m. f m i) c.word_length-bits.ensures in
+    let s : c.read_bits.result < 2 ^ n = subst (λ (m : ℕ). c.read_bits.result < 2 ^ m) c.word_length-bits.ensures c.read_bits.ensures.small in (
       simp length-set c.loop-i.invariant.0,
       λ k h. ap (λ x. get_or (set c.loop-i.words i x) k 0) v ∙ fill_by_more (f n) c.loop-i.words i 0 low c.loop-i.invariant.1 k h,
-      small_after_set c.loop-i.words i c.read-bits.result (2 ^ n) low s c.loop-i.invariant.2,
+      small_after_set c.loop-i.words i c.read_bits.result (2 ^ n) low s c.loop-i.invariant.2,
     )

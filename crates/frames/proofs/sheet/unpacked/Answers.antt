@@ -12,7 +12,7 @@ loop-b-preserved c =
     let l = c.loop-l.l in
     let b = c.loop-b.b in
     let octets = c.args.octets.now in
-    let v : c.bit-at.result ≡ bit_at octets (bit_of_cell (79 * l + b)) = c.bit-at.ensures.value ∙ ap (bit_at octets) (cell_at l b (omega arith)) in (
+    let v : c.bit_at.result ≡ bit_at octets (bit_of_cell (79 * l + b)) = c.bit_at.ensures.value ∙ ap (bit_at octets) (cell_at l b (omega arith)) in (
       simp length-set c.loop-b.invariant.0,
       λ k h. ap (λ x. get_or (set c.loop-b.cells (79 * l + b) x) k 0) v
           ∙ fill_by_more (λ i. bit_at octets (bit_of_cell i)) c.loop-b.cells (79 * l + b) 0 (omega (arith, c.loop-b.invariant.0)) c.loop-b.invariant.1 k (omega arith),

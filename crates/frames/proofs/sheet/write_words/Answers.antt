@@ -11,8 +11,8 @@ loop-i-preserved g c =
       omega arith,
       λ a l.
           let low : a < length c.loop-i.cells = omega arith in
-          c.write-bits.ensures a low
-          ∙ ap (λ s. over s c.args.columns.now c.word-length-bits.result (get_or c.args.words.now i 0) c.word-length-bits.result a (get_or c.loop-i.cells a 0)) c.half-start.ensures
-          ∙ ap (λ m. over (start_of i) c.args.columns.now m (get_or c.args.words.now i 0) m a (get_or c.loop-i.cells a 0)) c.word-length-bits.ensures
+          c.write_bits.ensures a low
+          ∙ ap (λ s. over s c.args.columns.now c.word_length-bits.result (get_or c.args.words.now i 0) c.word_length-bits.result a (get_or c.loop-i.cells a 0)) c.half_start.ensures
+          ∙ ap (λ m. over (start_of i) c.args.columns.now m (get_or c.args.words.now i 0) m a (get_or c.loop-i.cells a 0)) c.word_length-bits.ensures
           ∙ halves_more c.args.columns.now n c.args.words.now i a (get_or c.args.cells.now a 0) (get_or c.loop-i.cells a 0) c.requires.inside (c.loop-i.invariant.1 a l),
     )

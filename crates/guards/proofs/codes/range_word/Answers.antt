@@ -18,9 +18,9 @@ module _ (c : goal.After-syndrome) where
   small : word < 2 ^ 12
   small = rw made sent.small
 
-pub overflow-cast-result : goal.overflow-cast-result
+pub overflow_cast-result : goal.overflow_cast-result
 unfolding word
-overflow-cast-result c = omega (arith, small c)
+overflow_cast-result c = omega (arith, small c)
 
 pub returns : goal.returns
 unfolding word

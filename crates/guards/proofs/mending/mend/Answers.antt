@@ -11,14 +11,14 @@ located_so word s found e h = h ∙ ap (located 12 range_syndrome) e
 
 pub flipped-mended-requires : goal.flipped-mended-requires
 flipped-mended-requires c = (
-  located_so c.args.word c.range-word-syndrome.result c.locate-found.result c.range-word-syndrome.ensures c.locate-found.ensures.answer,
-  subst (λ (s : ℕ). Means 12 range_syndrome s c.locate-found.result) c.range-word-syndrome.ensures c.locate-found.ensures.means,
+  located_so c.args.word c.range_word_syndrome.result c.locate-found.result c.range_word_syndrome.ensures c.locate-found.ensures.answer,
+  subst (λ (s : ℕ). Means 12 range_syndrome s c.locate-found.result) c.range_word_syndrome.ensures c.locate-found.ensures.means,
 )
 
 pub returns : goal.returns
 unfolding ranges_told
 returns c = record {
-  found = located_so c.args.word c.range-word-syndrome.result c.locate-found.result c.range-word-syndrome.ensures c.locate-found.ensures.answer;
-  first = c.ranges-in.ensures ∙ ap (λ (w : ℕ). ranges_of_code (code_in w 1)) c.flipped-mended.ensures;
-  second = c.ranges-in-2.ensures ∙ ap (λ (w : ℕ). ranges_of_code (code_in w 2)) c.flipped-mended.ensures;
+  found = located_so c.args.word c.range_word_syndrome.result c.locate-found.result c.range_word_syndrome.ensures c.locate-found.ensures.answer;
+  first = c.ranges_in.ensures ∙ ap (λ (w : ℕ). ranges_of_code (code_in w 1)) c.flipped-mended.ensures;
+  second = c.ranges_in-2.ensures ∙ ap (λ (w : ℕ). ranges_of_code (code_in w 2)) c.flipped-mended.ensures;
 }

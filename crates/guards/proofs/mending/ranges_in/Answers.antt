@@ -22,4 +22,4 @@ as_numbers (Some s) code h =
     ∙ sym (cond-true (ltb code 15) (Some ((14 - code) % 5, (14 - code) / 5)) None (lt-ltb code 15 (omega arith)))
 
 pub returns : goal.returns
-returns c = as_numbers c.from-code.result _ c.from-code.ensures.answer ∙ ap ranges_of_code (and_mask (c.args.word / 2 ^ c.args.place) 4)
+returns c = as_numbers c.from_code.result _ c.from_code.ensures.answer ∙ ap ranges_of_code (and_mask (c.args.word / 2 ^ c.args.place) 4)

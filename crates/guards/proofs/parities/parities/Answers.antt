@@ -5,11 +5,11 @@ use Rattle.guards.proofs.parities.parities.Goals as goal
 pub loop-sample-init : goal.loop-sample-init
 loop-sample-init c = sym (none_yet c.args.odd.now c.args.even.now)
 
-pub overflow-mul-parities : goal.overflow-mul-parities
-overflow-mul-parities c = omega (arith, so_far_small c.args.odd.now c.args.even.now c.loop-sample.sample-index c.loop-sample.parities (omega arith) c.loop-sample.invariant)
+pub overflow_mul-parities : goal.overflow_mul-parities
+overflow_mul-parities c = omega (arith, so_far_small c.args.odd.now c.args.even.now c.loop-sample.sample-index c.loop-sample.parities (omega arith) c.loop-sample.invariant)
 
-pub overflow-add-parities : goal.overflow-add-parities
-overflow-add-parities c = omega (arith, so_far_small c.args.odd.now c.args.even.now c.loop-sample.sample-index c.loop-sample.parities (omega arith) c.loop-sample.invariant)
+pub overflow_add-parities : goal.overflow_add-parities
+overflow_add-parities c = omega (arith, so_far_small c.args.odd.now c.args.even.now c.loop-sample.sample-index c.loop-sample.parities (omega arith) c.loop-sample.invariant)
 
 pub loop-sample-preserved : goal.loop-sample-preserved
 loop-sample-preserved c = odd_more c.args.odd.now c.args.even.now c.loop-sample.sample-index c.loop-sample.parities c.loop-sample-test.true c.loop-sample.invariant
@@ -19,12 +19,12 @@ loop-first-init c =
     let end : c.loop-sample.sample-index ≡ 16 = omega arith in
     c.loop-sample.invariant ∙ ap (so_far c.args.odd.now c.args.even.now) end
 
-pub overflow-mul-parities-in-loop-first : goal.overflow-mul-parities-in-loop-first
-overflow-mul-parities-in-loop-first c =
+pub overflow_mul-parities-in-loop-first : goal.overflow_mul-parities-in-loop-first
+overflow_mul-parities-in-loop-first c =
     omega (arith, so_far_small c.args.odd.now c.args.even.now (16 + c.loop-first.first-index) c.loop-first.parities (omega arith) c.loop-first.invariant)
 
-pub overflow-add-parities-in-loop-first : goal.overflow-add-parities-in-loop-first
-overflow-add-parities-in-loop-first c =
+pub overflow_add-parities-in-loop-first : goal.overflow_add-parities-in-loop-first
+overflow_add-parities-in-loop-first c =
     omega (arith, so_far_small c.args.odd.now c.args.even.now (16 + c.loop-first.first-index) c.loop-first.parities (omega arith) c.loop-first.invariant)
 
 pub loop-first-preserved : goal.loop-first-preserved

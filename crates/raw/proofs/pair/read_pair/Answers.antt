@@ -13,8 +13,8 @@ loop-i-preserved g c =
     let i = c.loop-i.i in
     let was = map at (range_with_len 0 i) in
     let n : length (map value was) ≡ i = length-map was value ∙ length-map-range_with_len at 0 i in
-    let old = replicate 64 c.from-octets-numbers.result in
-    ap (set c.loop-i.numbers i) c.from-octets.ensures
+    let old = replicate 64 c.from_octets-numbers.result in
+    ap (set c.loop-i.numbers i) c.from_octets.ensures
     ∙ put_one (map value was) c.loop-i.numbers old i c.loop-i.invariant (value (at i)) n (omega arith)
     ∙ ap (λ l. l ++ drop (i + 1) old) (sym (ap (map value) (map-range_with_len_more at 0 i i (omega arith)) ∙ map_push value was (at i)))
 
@@ -22,5 +22,5 @@ pub returns : goal.returns
 returns g c =
     let end : c.loop-i.i ≡ 64 = omega arith in
     let made = λ (n : ℕ). map g.N.RawNumber.value (map (number_at c.args.octets.now) (range_with_len 0 n)) in
-    put_all (made c.loop-i.i) c.loop-i.numbers (replicate 64 c.from-octets-numbers.result) c.loop-i.i c.loop-i.invariant (omega arith)
+    put_all (made c.loop-i.i) c.loop-i.numbers (replicate 64 c.from_octets-numbers.result) c.loop-i.i c.loop-i.invariant (omega arith)
     ∙ ap made end

@@ -25,7 +25,7 @@ loop-i-preserved g c =
           ∙ ap (λ l. l ++ value (bits x) ∷ []) c.loop-i.invariant.1
           ∙ ap (λ y. take i xs ++ y ∷ []) c.octets.ensures.back
           ∙ sym more,
-      λ _. c.type-inv.numbers,
+      λ _. c.type_inv.numbers,
     )
 
 pub returns : goal.returns

@@ -21,7 +21,7 @@ loop-i-preserved g c =
     let m = g.L.WordLaw.meaning c.args.law.now in
     let v = get_or c.args.values.now c.loop-i.i (pos 0) in
     let f : SFits w32 v = search rules in
-    let h = made_yes m v _ (simp to_z-of_z at c.in-default.ensures) in
+    let h = made_yes m v _ (simp to_z-of_z at c.in_default.ensures) in
     c.loop-i.invariant ∙ refusal_more (unmade m) c.args.values.now c.loop-i.i (pos 0) c.loop-i-test.true h.0
 
 pub returns : goal.returns

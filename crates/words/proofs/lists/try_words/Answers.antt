@@ -15,7 +15,7 @@ returns-in-Err g c =
 pub loop-i-preserved : goal.loop-i-preserved
 loop-i-preserved g c =
     let m = g.L.WordLaw.meaning c.args.law.now in
-    let h = read_yes m (get_or c.args.words.now c.loop-i.i 0) _ c.in-default.ensures in
+    let h = read_yes m (get_or c.args.words.now c.loop-i.i 0) _ c.in_default.ensures in
     c.loop-i.invariant ∙ refusal_more m.refusal c.args.words.now c.loop-i.i 0 c.loop-i-test.true h.0
 
 pub returns : goal.returns

@@ -9,7 +9,7 @@ returns-then-size-half c =
     let half = c.args.half in
     let width = 2 ^ c.args.exponent in
     let f = c.ranges.value in
-    let e : c.width-of.result ≡ width = c.width-of.ensures.value in
+    let e : c.width_of.result ≡ width = c.width_of.ensures.value in
     refused 10 half width c.args.value (omega (arith, mul-le 1 1 half width (omega arith) (pow_pos c.args.exponent)))
     (omega (arith, ap (λ n. half * n) e, simp to_z-of_z at c.magnitude-size.ensures))
 
@@ -17,12 +17,12 @@ returns-then-size-half c =
 small : (size half width w : ℕ) → 0 < width → w ≡ width → size < half * w → size / width < half
 small size half width w p e h = div_below size width half p (subst (λ (n : ℕ). size < half * n) e h)
 
-pub overflow-cast-result : goal.overflow-cast-result
-overflow-cast-result c =
-    let h = small c.magnitude-size.result c.args.half (2 ^ c.args.exponent) c.width-of.result (pow_pos c.args.exponent) c.width-of.ensures.value (omega arith) in
+pub overflow_cast-result : goal.overflow_cast-result
+overflow_cast-result c =
+    let h = small c.magnitude-size.result c.args.half (2 ^ c.args.exponent) c.width_of.result (pow_pos c.args.exponent) c.width_of.ensures.value (omega arith) in
     search rules
 
-pub overflow-cast-result-else-value-ge0 : goal.overflow-cast-result-else-value-ge0
-overflow-cast-result-else-value-ge0 c =
-    let h = small c.magnitude-size.result c.args.half (2 ^ c.args.exponent) c.width-of.result (pow_pos c.args.exponent) c.width-of.ensures.value (omega arith) in
+pub overflow_cast-result-else-value-ge0 : goal.overflow_cast-result-else-value-ge0
+overflow_cast-result-else-value-ge0 c =
+    let h = small c.magnitude-size.result c.args.half (2 ^ c.args.exponent) c.width_of.result (pow_pos c.args.exponent) c.width_of.ensures.value (omega arith) in
     search rules

@@ -7,11 +7,11 @@ use Rattle.decoder.proofs.Given.{muted_samples, heard_samples}
 use Rattle.decoder.proofs.Nearness.{stays_near}
 use Rattle.decoder.proofs.received.ReceivedBlock.samples.Goals as goal
 
-pub returns-in-default : goal.returns-in-default
-returns-in-default c =
+pub returns-in_default : goal.returns-in_default
+returns-in_default c =
     let b = received c.args.self.now in
     let next = c.args.next.now in
-    let value = muted_samples b next c.in-default.ensures in
+    let value = muted_samples b next c.in_default.ensures in
     record {
       value = value;
       close = subst (StaysNear b next) (sym value) (stays_near b next);

@@ -13,8 +13,8 @@ returns c =
     let o = c.args.octets.now in
     let p = pair_in c.read.result in
     let long : length o ≡ 80 = omega arith in
-    let e : listed p ≡ listed (heard o) = c.read.ensures ∙ listed_same (heard_by (bit_of c.of-octets.result.cells)) (heard o) (heard_same (bit_of c.of-octets.result.cells) (bit_at o) c.of-octets.ensures) in
-    let quiet : all_ones o ≡ false = sym c.all-ones.ensures ∙ c.if-all-ones.false in
+    let e : listed p ≡ listed (heard o) = c.read.ensures ∙ listed_same (heard_by (bit_of c.of_octets.result.cells)) (heard o) (heard_same (bit_of c.of_octets.result.cells) (bit_at o) c.of_octets.ensures) in
+    let quiet : all_ones o ≡ false = sym c.all_ones.ensures ∙ c.if-all_ones.false in
     record {
       answer = ap gives e ∙ sym (cond-true (eqb (length o) 80) _ _ (eq-eqb _ _ long) ∙ cond-false (all_ones o) _ _ quiet);
       again = subst (λ (x : List ℕ). Alike x o) (sym (octets_same p (heard o) (same_listed p (heard o) e))) (written_again o);

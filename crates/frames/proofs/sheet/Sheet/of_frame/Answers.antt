@@ -7,10 +7,13 @@ use Rattle.frames.proofs.Reading.{carried_bit, spare_carried}
 use Rattle.frames.proofs.Cells.{cells_small, row_of_cells, spare_cell}
 use Rattle.frames.proofs.sheet.Sheet.of_frame.Goals as goal
 
-pub invariant-of-result : goal.invariant-of-result
-invariant-of-result c =
+pub invariant_of-result : goal.invariant_of-result
+invariant_of-result c =
     let p = pair_in c.args.frame.now in
-    (c.laid_out.ensures.all, (cells_small (λ i. carried p (lies_at i)) (λ i. carried_bit p (lies_at i)) c.laid_out.result c.laid_out.ensures.all c.laid_out.ensures.value, tt))
+    record {
+      all = c.laid_out.ensures.all;
+      bits = cells_small (λ i. carried p (lies_at i)) (λ i. carried_bit p (lies_at i)) c.laid_out.result c.laid_out.ensures.all c.laid_out.ensures.value;
+    }
 
 pub returns : goal.returns
 returns c = λ i h.

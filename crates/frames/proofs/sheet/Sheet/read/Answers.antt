@@ -5,10 +5,10 @@ use Rattle.frames.proofs.sheet.Sheet.read.Goals as goal
 pub returns : goal.returns
 returns c =
     let cells = c.args.self.now.cells in
-    read_right cells c.read-words.result c.read-words-4.result c.read-words-2.result c.read-words-3.result
-    c.read-bits-ranges.result c.read-bits.result c.read-bits-2.result
-    (fill_by_all (collected cells columns_a 10) c.read-words.result 16 0 c.read-words.ensures.all c.read-words.ensures.value)
-    (fill_by_all (collected cells columns_b 9) c.read-words-4.result 16 0 c.read-words-4.ensures.all c.read-words-4.ensures.value)
-    (fill_by_all (collected cells columns_c 9) c.read-words-2.result 16 0 c.read-words-2.ensures.all c.read-words-2.ensures.value)
-    (fill_by_all (collected cells columns_d 10) c.read-words-3.result 16 0 c.read-words-3.ensures.all c.read-words-3.ensures.value)
-    c.read-bits-ranges.ensures.value c.read-bits.ensures.value c.read-bits-2.ensures.value
+    read_right cells c.read_words.result c.read_words-4.result c.read_words-2.result c.read_words-3.result
+    c.read_bits-ranges.result c.read_bits.result c.read_bits-2.result
+    (fill_by_all (collected cells columns_a 10) c.read_words.result 16 0 c.read_words.ensures.all c.read_words.ensures.value)
+    (fill_by_all (collected cells columns_b 9) c.read_words-4.result 16 0 c.read_words-4.ensures.all c.read_words-4.ensures.value)
+    (fill_by_all (collected cells columns_c 9) c.read_words-2.result 16 0 c.read_words-2.ensures.all c.read_words-2.ensures.value)
+    (fill_by_all (collected cells columns_d 10) c.read_words-3.result 16 0 c.read_words-3.ensures.all c.read_words-3.ensures.value)
+    c.read_bits-ranges.ensures.value c.read_bits.ensures.value c.read_bits-2.ensures.value

@@ -7,11 +7,11 @@ use Rattle.guards.proofs.codes.RangeCodeCheckCode.syndrome.Goals as goal
 room : (c : goal.In-loop-check) → 2 * c.loop-check.syndrome + checked_bit c.args.set c.loop-check.check-index < 2 ^ 32
 room c = number_room (checked_bit c.args.set) (λ i. omega arith) c.loop-check.check-index c.loop-check.syndrome c.loop-check.invariant (omega arith)
 
-pub overflow-mul-syndrome : goal.overflow-mul-syndrome
-overflow-mul-syndrome c = omega (arith, room c)
+pub overflow_mul-syndrome : goal.overflow_mul-syndrome
+overflow_mul-syndrome c = omega (arith, room c)
 
-pub overflow-add-syndrome : goal.overflow-add-syndrome
-overflow-add-syndrome c = omega (arith, room c)
+pub overflow_add-syndrome : goal.overflow_add-syndrome
+overflow_add-syndrome c = omega (arith, room c)
 
 pub loop-check-preserved : goal.loop-check-preserved
 loop-check-preserved c = number_more (checked_bit c.args.set) c.loop-check.check-index c.loop-check.syndrome c.loop-check.invariant

@@ -4,6 +4,7 @@
 
 use crate::failure::Failure;
 use crate::task::Task;
+use std::process::ExitCode;
 use std::{env, io};
 use words::VariantB;
 
@@ -32,10 +33,12 @@ fn run(rt: &HostRuntime) -> Result<(), Failure> {
     }
 }
 
-fn main(rt: HostRuntime) -> Result<(), Failure> {
-    let outcome = run(&rt);
-    if let Err(failure) = &outcome {
-        eprintln!(rt; "{failure}")?;
+fn main(rt: HostRuntime) -> io::Result<ExitCode> {
+    match run(&rt) {
+        Ok(()) => Ok(ExitCode::SUCCESS),
+        Err(failure) => {
+            eprintln!(rt; "{failure}")?;
+            Ok(ExitCode::FAILURE)
+        }
     }
-    outcome
 }

@@ -4,7 +4,8 @@
 
 use crate::failure::Failure;
 use crate::streams::send_all;
-use std::env;
+use std::process::ExitCode;
+use std::{env, io};
 
 mod counts;
 mod failure;
@@ -23,10 +24,12 @@ fn run(rt: &HostRuntime) -> Result<(), Failure> {
     Ok(())
 }
 
-fn main(rt: HostRuntime) -> Result<(), Failure> {
-    let outcome = run(&rt);
-    if let Err(failure) = &outcome {
-        eprintln!(rt; "{failure}")?;
+fn main(rt: HostRuntime) -> io::Result<ExitCode> {
+    match run(&rt) {
+        Ok(()) => Ok(ExitCode::SUCCESS),
+        Err(failure) => {
+            eprintln!(rt; "{failure}")?;
+            Ok(ExitCode::FAILURE)
+        }
     }
-    outcome
 }

@@ -13,11 +13,11 @@ returns-in-Encode c =
     record {
       answer =
           c.encode-outcome.ensures.answer
-          ∙ ap (λ l. making_all variant_b l 64) c.read-pair.ensures
+          ∙ ap (λ l. making_all variant_b l 64) c.read_pair.ensures
           ∙ ap (λ d. crossing d octets) (sym c.in-Encode.is);
       buffer =
-          encoded c.args.direction (is_ok c.encode-outcome.result) octets c.write-pair.result c.read-pair.result c.encode-outcome.new.words
-          c.in-Encode.is c.read-pair.ensures c.encode-outcome.ensures.buffer c.write-pair.ensures.answer;
+          encoded c.args.direction (is_ok c.encode-outcome.result) octets c.write_pair.result c.read_pair.result c.encode-outcome.new.words
+          c.in-Encode.is c.read_pair.ensures c.encode-outcome.ensures.buffer c.write_pair.ensures.answer;
     }
 
 pub returns-in-Decode : goal.returns-in-Decode
@@ -26,9 +26,9 @@ returns-in-Decode c =
     record {
       answer =
           c.decode-outcome.ensures.answer
-          ∙ ap (λ l. reading_all variant_b l 64) (c.read-pair-in-Decode.ensures ∙ map-id (numbers_in octets))
+          ∙ ap (λ l. reading_all variant_b l 64) (c.read_pair-in-Decode.ensures ∙ map-id (numbers_in octets))
           ∙ ap (λ d. crossing d octets) (sym c.in-Decode.is);
       buffer =
-          decoded c.args.direction (is_ok c.decode-outcome.result) octets c.write-pair-in-Decode.result c.read-pair-in-Decode.result c.decode-outcome.new.samples
-          c.in-Decode.is c.read-pair-in-Decode.ensures c.decode-outcome.ensures.buffer c.write-pair-in-Decode.ensures.answer;
+          decoded c.args.direction (is_ok c.decode-outcome.result) octets c.write_pair-in-Decode.result c.read_pair-in-Decode.result c.decode-outcome.new.samples
+          c.in-Decode.is c.read_pair-in-Decode.ensures c.decode-outcome.ensures.buffer c.write_pair-in-Decode.ensures.answer;
     }

@@ -9,8 +9,8 @@ returns-in-empty c = sym (by_none string_bytes c.args.arguments.now (omega (arit
 pub returns-in-len1 : goal.returns-in-len1
 returns-in-len1 c =
     c.named.ensures
-    ∙ ap by_name c.as-str.ensures.value
+    ∙ ap by_name c.as_str.ensures.value
     ∙ sym (by_one string_bytes c.args.arguments.now c.name-item.result (omega (arith, ltb-true, ltb-false)) c.name-item.is)
 
-pub returns-in-default : goal.returns-in-default
-returns-in-default c = sym (by_more string_bytes c.args.arguments.now (omega (arith, ltb-false)))
+pub returns-in_default : goal.returns-in_default
+returns-in_default c = sym (by_more string_bytes c.args.arguments.now (omega (arith, ltb-false)))

@@ -14,7 +14,7 @@ loop-i-preserved c =
     let f : SFits w32 v = search rules in
     let g : SFits w32 w = search rules in
     let rest = distances (drop (i + 1) vs) (drop (i + 1) ws) in
-    let d : c.abs-diff.result ≡ distance v w = simp to_z-of_z at c.abs-diff.ensures in
+    let d : c.abs_diff.result ≡ distance v w = simp to_z-of_z at c.abs_diff.ensures in
     ap (λ m. fold max m rest) (c.max-most.ensures ∙ ap (max c.loop-i.most) d)
     ∙ sym (ap (λ l. fold max c.loop-i.most (distances l (drop i ws))) (drop_more vs i (pos 0) (omega arith))
     ∙ ap (λ l. fold max c.loop-i.most (distances (v ∷ drop (i + 1) vs) l)) (drop_more ws i (pos 0) (omega arith)))

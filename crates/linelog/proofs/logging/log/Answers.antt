@@ -10,12 +10,12 @@ pub returns : goal.returns
 returns c =
     let told = report_told c.args.report.now in
     let both = lines c.args.circuit c.args.pair told in
-    let text = c.of-pair-text.result in
+    let text = c.of_pair-text.result in
     let buffer = c.args.buffer.now in
     let same : filled both ≡ logging c.args.circuit c.args.pair told buffer =
-    let_through (checking c.args.circuit c.args.pair (length buffer)) _ both buffer c.in-ok-check.ensures in
+    let_through (checking c.args.circuit c.args.pair (length buffer)) _ both buffer c.in_ok-check.ensures in
     record {
-      answer = ap gives (length_is text both c.of-pair-text.ensures.written) ∙ ap (λ (l : Logged). l.answer) same;
-      buffer = c.copy-from-slice.ensures.after ∙ octets_are text both c.of-pair-text.ensures.written ∙ ap (λ (l : Logged). l.buffer) same;
+      answer = ap gives (length_is text both c.of_pair-text.ensures.written) ∙ ap (λ (l : Logged). l.answer) same;
+      buffer = c.copy_from_slice.ensures.after ∙ octets_are text both c.of_pair-text.ensures.written ∙ ap (λ (l : Logged). l.buffer) same;
       fits = text.inside;
     }

@@ -54,7 +54,7 @@ returns c =
     let d = c.encode-second.result in
     let kg : Kept c.guarded.result b = record { words = c.guarded.ensures.words; checks = c.guarded.ensures.checks } in
     let kh : Kept c.guarded-2.result d = record { words = c.guarded-2.ensures.words; checks = c.guarded-2.ensures.checks } in
-    let x : code_of b ≡ code (first_block c.args.pair.now.samples) = c.encode-first.ensures.value ∙ ap code c.first-block.ensures in
-    let y : code_of d ≡ code (second_block c.args.pair.now.samples c.args.next.now.samples) = c.encode-second.ensures.value ∙ ap code c.second-block.ensures in
-    joined c.range-word.result c.guarded.result c.guarded-2.result b d kg kh c.range-word.ensures.value
+    let x : code_of b ≡ code (first_block c.args.pair.now.samples) = c.encode-first.ensures.value ∙ ap code c.first_block.ensures in
+    let y : code_of d ≡ code (second_block c.args.pair.now.samples c.args.next.now.samples) = c.encode-second.ensures.value ∙ ap code c.second_block.ensures in
+    joined c.range_word.result c.guarded.result c.guarded-2.result b d kg kh c.range_word.ensures.value
     ∙ ap (λ (k : Code). guarded k (code_of d)) x ∙ ap (λ (k : Code). guarded (code (first_block c.args.pair.now.samples)) k) y

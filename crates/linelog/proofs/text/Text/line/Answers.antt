@@ -14,11 +14,11 @@ returns c =
     let block = block_fields c.args.circuit c.args.pair c.args.number in
     let ranges = range_fields told.ranges in
     let before = text c.args.self.now in
-    let one = text c.block-fields.new.self in
-    let two = text c.range-fields.new.self in
-    let three = text c.finding-fields.new.self in
+    let one = text c.block_fields.new.self in
+    let two = text c.range_fields.new.self in
+    let three = text c.finding_fields.new.self in
     record {
       written = then_line before two three (block ++ ranges) (word_of told.verdict) (decimal (number_of told.verdict) ∷ decimal (sound_samples told.marks) ∷ [])
-          (then_fields before one two block ranges c.block-fields.ensures c.range-fields.ensures) c.finding-fields.ensures.written;
-      short = line_length c.args.circuit c.args.pair c.args.number c.args.block.now (omega arith) (omega arith) (omega arith) c.finding-fields.ensures.short;
+          (then_fields before one two block ranges c.block_fields.ensures c.range_fields.ensures) c.finding_fields.ensures.written;
+      short = line_length c.args.circuit c.args.pair c.args.number c.args.block.now (omega arith) (omega arith) (omega arith) c.finding_fields.ensures.short;
     }

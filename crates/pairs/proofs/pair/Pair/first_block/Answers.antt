@@ -5,15 +5,13 @@ use Rattle.pairs.specs.Sending.{block_from}
 use Rattle.pairs.proofs.Placed.{everywhere}
 use Rattle.pairs.proofs.pair.Pair.first_block.Goals as goal
 
-pub invariant-of-result : goal.invariant-of-result
-invariant-of-result c =
-    let P : ℤ → Type 0 = λ v. mag v < 2 ^ 13 in (
-      c.loop-i.invariant.0,
-      (
-        everywhere P c.loop-i.samples (pos 0) (omega arith) (λ k h. subst P (sym (c.loop-i.invariant.1 k (omega (arith, c.loop-i.invariant.0)))) (c.args.self.now.bounded k)),
-        tt,
-      ),
-    )
+pub invariant_of-result : goal.invariant_of-result
+invariant_of-result c =
+    let P : ℤ → Type 0 = λ v. mag v < 2 ^ 13 in
+    record {
+      all = c.loop-i.invariant.0;
+      bounded = everywhere P c.loop-i.samples (pos 0) (omega arith) (λ k h. subst P (sym (c.loop-i.invariant.1 k (omega (arith, c.loop-i.invariant.0)))) (c.args.self.now.bounded k));
+    }
 
 pub returns : goal.returns
 unfolding block_from

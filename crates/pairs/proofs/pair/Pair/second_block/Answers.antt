@@ -24,15 +24,15 @@ loop-i-preserved c =
       get_or-set_other out i 32 v (pos 0) ne ∙ c.loop-i.invariant.2,
     )
 
-pub invariant-of-result : goal.invariant-of-result
-invariant-of-result c =
+pub invariant_of-result : goal.invariant_of-result
+invariant_of-result c =
     let P : ℤ → Type 0 = λ v. mag v < 2 ^ 13 in
     let all : (k : ℕ) → k < 33 → P (get_or c.loop-i.samples k (pos 0)) = λ k h.
     ⊎_elim
     (λ (lt : k < 32). subst P (sym (c.loop-i.invariant.1 k (omega arith))) (c.args.self.now.bounded (32 + k)))
     (λ (ge : 32 ≤ k). let e : 32 ≡ k = omega arith in subst (λ (j : ℕ). P (get_or c.loop-i.samples j (pos 0))) e (subst P (sym c.loop-i.invariant.2) (c.args.next.now.bounded 0)))
     (cases_lt k 32) in
-    (c.loop-i.invariant.0, (everywhere P c.loop-i.samples (pos 0) (omega arith) (λ k h. all k (omega (arith, c.loop-i.invariant.0))), tt))
+    record { all = c.loop-i.invariant.0; bounded = everywhere P c.loop-i.samples (pos 0) (omega arith) (λ k h. all k (omega (arith, c.loop-i.invariant.0))) }
 
 pub returns : goal.returns
 unfolding block_from

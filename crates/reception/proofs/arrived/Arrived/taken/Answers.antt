@@ -16,8 +16,8 @@ given false ones n x y e = let z : ◌≡◌ {A = ℕ} 0 1 = cc in absurd (omega
 pub returns : goal.returns
 returns c =
     let o = c.args.octets.now in
-    let answer = c.in-ok-frame.ensures.answer in
+    let answer = c.in_ok-frame.ensures.answer in
     record {
       answer = answer;
-      carried = ap (λ (l : Listed). (false, l)) (given (eqb (length o) 80) (all_ones o) (length o) (listed (pair_in c.in-ok-frame.frame)) (listed (heard o)) answer);
+      carried = ap (λ (l : Listed). (false, l)) (given (eqb (length o) 80) (all_ones o) (length o) (listed (pair_in c.in_ok-frame.frame)) (listed (heard o)) answer);
     }

@@ -34,8 +34,8 @@ returns g c =
     let joined = c.joined-samples.ensures in
     record {
       report =
-          ap (λ (t : BlockTold). told_of t (block_report_told c.report-on-2.result)) (same_told first second f c.report-on.result c.report-on.ensures c.follower-second.ensures)
-          ∙ ap (told_of (block_told first (follower_of second))) (same_told second next h c.report-on-2.result c.report-on-2.ensures c.follower-next.ensures);
+          ap (λ (t : BlockTold). told_of t (block_report_told c.report_on-2.result)) (same_told first second f c.report_on.result c.report_on.ensures c.follower-second.ensures)
+          ∙ ap (told_of (block_told first (follower_of second))) (same_told second next h c.report_on-2.result c.report_on-2.ensures c.follower-next.ensures);
       buffer =
           subst (λ (zs : List ℤ). c.compand.new.words ≡ cond (eqb (length c.args.words.now) 64) (map m.word zs) c.args.words.now)
           (row_same first second next f h xs ys row a b joined)

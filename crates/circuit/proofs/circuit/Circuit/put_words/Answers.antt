@@ -16,11 +16,11 @@ returns g c =
     let law = g.L.WordLaw.meaning c.args.law.now in
     let pair = map (middle law) words in
     record {
-      state = c.put-words.ensures.state;
-      buffer = c.put-words.ensures.buffer;
-      answer = c.put-words.ensures.answer;
+      state = c.put_words.ensures.state;
+      buffer = c.put_words.ensures.buffer;
+      answer = c.put_words.ensures.answer;
       receiver = refl;
-      next = writes_next s (puts_words law words frame) pair (answer c.put-words.result) c.put-words.new.frame
-          (ap (λ (a : Answer Sent). put_seen a pair c.put-words.new.frame) c.put-words.ensures.answer
-          ∙ ap (put_seen (putting_words s frame law words).answer pair) c.put-words.ensures.buffer);
+      next = writes_next s (puts_words law words frame) pair (answer c.put_words.result) c.put_words.new.frame
+          (ap (λ (a : Answer Sent). put_seen a pair c.put_words.new.frame) c.put_words.ensures.answer
+          ∙ ap (put_seen (putting_words s frame law words).answer pair) c.put_words.ensures.buffer);
     }

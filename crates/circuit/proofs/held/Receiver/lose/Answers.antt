@@ -5,7 +5,7 @@ use Rattle.circuit.proofs.Answering.{measured, let_through}
 use Rattle.circuit.proofs.held.Receiver.lose.Goals as goal
 
 pub arrive-requires : goal.arrive-requires
-arrive-requires g c = measured (length c.args.words.now) _ c.in-ok-measure.ensures
+arrive-requires g c = measured (length c.args.words.now) _ c.in_ok-measure.ensures
 
 pub returns : goal.returns
 returns g c =
@@ -13,7 +13,7 @@ returns g c =
     let s = sink_of c.args.self.now in
     let words = c.args.words.now in
     let same : arriving o s words None ≡ losing o s words =
-    let_through o s words (measuring (length words)) _ (arriving o s words None) c.in-ok-measure.ensures in
+    let_through o s words (measuring (length words)) _ (arriving o s words None) c.in_ok-measure.ensures in
     record {
       state = c.arrive.ensures.state None c.lost.ensures ∙ ap (λ (t : Took). t.sink) same;
       buffer = c.arrive.ensures.buffer None c.lost.ensures ∙ ap (λ (t : Took). t.words) same;

@@ -7,7 +7,7 @@ use Rattle.circuit.proofs.Answering.{measured, let_through}
 use Rattle.circuit.proofs.held.Receiver.take.Goals as goal
 
 pub arrive-requires : goal.arrive-requires
-arrive-requires g c = measured (length c.args.words.now) _ c.in-ok-measure.ensures
+arrive-requires g c = measured (length c.args.words.now) _ c.in_ok-measure.ensures
 
 pub returns : goal.returns
 returns g c =
@@ -15,10 +15,10 @@ returns g c =
     let s = sink_of c.args.self.now in
     let words = c.args.words.now in
     let octets = c.args.octets.now in
-    let came = c.in-ok-arrived.ensures.carried in
+    let came = c.in_ok-arrived.ensures.carried in
     let same : arriving o s words (Some octets) ≡ taking o s words octets =
-    ap (by_reading o s words octets) c.in-ok-arrived.ensures.answer
-    ∙ let_through o s words (measuring (length words)) _ (by_reading o s words octets (reading octets)) c.in-ok-measure.ensures in
+    ap (by_reading o s words octets) c.in_ok-arrived.ensures.answer
+    ∙ let_through o s words (measuring (length words)) _ (by_reading o s words octets (reading octets)) c.in_ok-measure.ensures in
     record {
       state = c.arrive.ensures.state (Some octets) came ∙ ap (λ (t : Took). t.sink) same;
       buffer = c.arrive.ensures.buffer (Some octets) came ∙ ap (λ (t : Took). t.words) same;

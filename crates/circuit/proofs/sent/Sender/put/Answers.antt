@@ -4,10 +4,10 @@ use Rattle.circuit.proofs.Measured.{measured, let_through}
 use Rattle.circuit.proofs.sent.Sender.put.Goals as goal
 
 pub widen-requires : goal.widen-requires
-widen-requires c = (measured (length c.args.samples.now) (length c.args.frame.now) _ c.in-ok-measure.ensures).1
+widen-requires c = (measured (length c.args.samples.now) (length c.args.frame.now) _ c.in_ok-measure.ensures).1
 
-pub put-values-requires : goal.put-values-requires
-put-values-requires c = (measured (length c.args.samples.now) (length c.args.frame.now) _ c.in-ok-measure.ensures).0
+pub put_values-requires : goal.put_values-requires
+put_values-requires c = (measured (length c.args.samples.now) (length c.args.frame.now) _ c.in_ok-measure.ensures).0
 
 pub returns : goal.returns
 returns c =
@@ -15,9 +15,9 @@ returns c =
     let frame = c.args.frame.now in
     let samples = c.args.samples.now in
     let same : valued s frame c.widen.result ≡ putting s frame samples =
-    ap (valued s frame) c.widen.ensures ∙ let_through s frame (measuring (length samples) (length frame)) _ (valued s frame samples) c.in-ok-measure.ensures in
+    ap (valued s frame) c.widen.ensures ∙ let_through s frame (measuring (length samples) (length frame)) _ (valued s frame samples) c.in_ok-measure.ensures in
     record {
-      state = c.put-values.ensures.state ∙ ap (λ (p : Put). p.source) same;
-      buffer = c.put-values.ensures.buffer ∙ ap (λ (p : Put). p.frame) same;
-      answer = c.put-values.ensures.answer ∙ ap (λ (p : Put). p.answer) same;
+      state = c.put_values.ensures.state ∙ ap (λ (p : Put). p.source) same;
+      buffer = c.put_values.ensures.buffer ∙ ap (λ (p : Put). p.frame) same;
+      answer = c.put_values.ensures.answer ∙ ap (λ (p : Put). p.answer) same;
     }

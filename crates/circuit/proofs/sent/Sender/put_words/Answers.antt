@@ -7,8 +7,8 @@ use Rattle.circuit.specs.Putting.{Put, source_of, measuring, unless_refused, val
 use Rattle.circuit.proofs.Measured.{measured, let_through}
 use Rattle.circuit.proofs.sent.Sender.put_words.Goals as goal
 
-pub put-values-requires : goal.put-values-requires
-put-values-requires g c = (measured (length c.args.words.now) (length c.args.frame.now) _ c.in-ok-measure.ensures).0
+pub put_values-requires : goal.put_values-requires
+put_values-requires g c = (measured (length c.args.words.now) (length c.args.frame.now) _ c.in_ok-measure.ensures).0
 
 pub returns : goal.returns
 returns g c =
@@ -17,14 +17,14 @@ returns g c =
     let frame = c.args.frame.now in
     let words = c.args.words.now in
     let values = map (middle m) words in
-    let count = (measured (length words) (length frame) _ c.in-ok-measure.ensures).1 in
-    let read : gives c.in-ok-expand.field-0 ≡ first_refused m.refusal 0 words = c.in-ok-expand.ensures.answer ∙ cond-true _ _ _ (eq-eqb 64 (length words) (sym count)) in
+    let count = (measured (length words) (length frame) _ c.in_ok-measure.ensures).1 in
+    let read : gives c.in_ok-expand.field-0 ≡ first_refused m.refusal 0 words = c.in_ok-expand.ensures.answer ∙ cond-true _ _ _ (eq-eqb 64 (length words) (sym count)) in
     let through = let_through s frame (first_refused m.refusal 0 words) _ (valued s frame values) read in
     let same : valued s frame c.expand.new.values ≡ putting_words s frame m words =
-    ap (valued s frame) c.in-ok-expand.ensures.buffer ∙ through
-    ∙ let_through s frame (measuring (length words) (length frame)) _ (unless_refused s frame (first_refused m.refusal 0 words) (valued s frame values)) c.in-ok-measure.ensures in
+    ap (valued s frame) c.in_ok-expand.ensures.buffer ∙ through
+    ∙ let_through s frame (measuring (length words) (length frame)) _ (unless_refused s frame (first_refused m.refusal 0 words) (valued s frame values)) c.in_ok-measure.ensures in
     record {
-      state = c.put-values.ensures.state ∙ ap (λ (p : Put). p.source) same;
-      buffer = c.put-values.ensures.buffer ∙ ap (λ (p : Put). p.frame) same;
-      answer = c.put-values.ensures.answer ∙ ap (λ (p : Put). p.answer) same;
+      state = c.put_values.ensures.state ∙ ap (λ (p : Put). p.source) same;
+      buffer = c.put_values.ensures.buffer ∙ ap (λ (p : Put). p.frame) same;
+      answer = c.put_values.ensures.answer ∙ ap (λ (p : Put). p.answer) same;
     }

@@ -22,6 +22,6 @@ pub returns : goal.returns
 returns c =
     let xs = c.args.words.now in
     let i = c.loop-i.i in
-    c.write-pair.ensures.answer
+    c.write_pair.ensures.answer
     ∙ ap sample_octets
     (put_all (map sample_of (take i xs)) c.loop-i.samples (replicate 64 (pos 0)) i c.loop-i.invariant (omega arith) ∙ ap (map sample_of) (take_all i xs (omega arith)))

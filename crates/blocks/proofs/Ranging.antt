@@ -1,7 +1,7 @@
 -- What a range holds has words under its law, and the smallest ranges are the ranges as numbers.
 use Rattle.std.proofs.Common.{◌≡◌, ℕ, zero, suc, ◌+◌, ◌-◌, ◌*◌, ◌^◌, ◌<◌, ◌≤◌, Bool, true, false, cond, ltb, List, map, length, get_or, ℤ, pos, negsuc, Decides, sym, refl, ap, ◌∙◌, subst, ⊎_elim, mul_assoc, arith}
 use lib.Signed.{mag}
-use Rattle.std.specs.List.{range_with_len, AllByRecursion as All}
+use Rattle.std.specs.List.{range_with_len, AllByRecursion}
 use Rattle.std.proofs.lemmas.Int.{ints}
 use Rattle.std.proofs.lemmas.Nat.{pow_pos, pow-add, mul-le}
 use Rattle.std.proofs.ByRecursion.{All-get_or, Decides-by_and}
@@ -40,7 +40,7 @@ module _ (samples : List ℤ) (n : length samples ≡ 33) (r : ℕ) where
       (All-get_or (λ v. mag v < 512 * 2 ^ r * 2 ^ a) (differences samples) k (pos 0) (omega (arith, length-map-range_with_len (difference_at samples) 0 16)) all))
 
 -- the test of a range
-pub held_test : (limit : ℕ) (values : List ℤ) → Decides (all_below limit values) (All (λ v. mag v < limit) values)
+pub held_test : (limit : ℕ) (values : List ℤ) → Decides (all_below limit values) (AllByRecursion (λ v. mag v < limit) values)
 held_test limit values = Decides-by_and (λ v. ltb (mag v) limit) (λ v. mag v < limit) (all_below limit) (λ v. Decides-ltb (mag v) limit) refl (λ _ _. refl) values
 
 module _ (half : ℕ) (values : List ℤ) (r : ℕ) (s : Smallest half r values) where

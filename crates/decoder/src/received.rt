@@ -2,7 +2,7 @@
 // Promise: each is the defined value, and whatever was sent, sound samples lie near it.
 ghost use Rattle.std.specs.Prelude.{◌≡◌, ℕ, ◌+◌, ◌*◌, ◌^◌, ◌<◌, pos, ◌+ℤ◌, slice_index_or};
 ghost use Rattle.std.specs.Int.Signed.{mag};
-ghost use Rattle.decoder.specs.Levels.{code_of, level as level-of, mean as mean-of, sample as sample_of};
+ghost use Rattle.decoder.specs.Levels.{code_of, level as level_of, mean as mean_of, sample as sample_of};
 ghost use Rattle.decoder.specs.Samples.{follower_of, samples_of};
 ghost use Rattle.decoder.specs.Marks.{is_sound, marks_of};
 ghost use Rattle.decoder.specs.Closeness.{StaysNear};
@@ -27,7 +27,7 @@ pub struct ReceivedBlock {
 // The level of an odd sample's word. It fits 16 bits.
 fn odd_level(word: u16, ranges: Ranges) -> i16
     requires { word < 2 ^ 10 }
-    ensures { result ≡ level-of ranges.basic (code_of 512 word) }
+    ensures { result ≡ level_of ranges.basic (code_of 512 word) }
 {
     word_level(word, ODD_CODES, ranges.basic()) as i16
 }
@@ -36,7 +36,7 @@ fn odd_level(word: u16, ranges: Ranges) -> i16
 fn mixed(sides: &[i32; SIDES], shares: &[i32; HALF]) -> [i32; BLOCK]
     requires { (((k : ℕ) → mag (slice_index_or sides.now k (pos 0)) < 2 ^ 17)) × (((k : ℕ) → mag (slice_index_or shares.now k (pos 0)) < 2 ^ 17)) }
     ensures odd { (k : ℕ) → k < 16 → slice_index_or result (2 * k) (pos 0) ≡ sample_of (slice_index_or sides.now k (pos 0)) }
-    ensures even { (k : ℕ) → k < 16 → slice_index_or result (2 * k + 1) (pos 0) ≡ sample_of (slice_index_or shares.now k (pos 0) +ℤ mean-of (slice_index_or sides.now k (pos 0)) (slice_index_or sides.now (k + 1) (pos 0))) }
+    ensures even { (k : ℕ) → k < 16 → slice_index_or result (2 * k + 1) (pos 0) ≡ sample_of (slice_index_or shares.now k (pos 0) +ℤ mean_of (slice_index_or sides.now k (pos 0)) (slice_index_or sides.now (k + 1) (pos 0))) }
     ensures small { (k : ℕ) → mag (slice_index_or result k (pos 0)) < 2 ^ 13 }
 {
     let mut samples = [0; BLOCK];

@@ -2,7 +2,7 @@
 // shift or a sum; nothing here divides.
 ghost use Rattle.std.specs.Prelude.{◌≡◌, ◌+◌, ◌-◌, ◌*◌, ◌^◌, ◌<◌, ◌≤◌, ◌+ℤ◌};
 ghost use Rattle.std.specs.Int.Signed.{mag};
-ghost use Rattle.decoder.specs.Levels.{code_of as code_in, level as level-of, mean as mean-of, sample as sample_of};
+ghost use Rattle.decoder.specs.Levels.{code_of as code_in, level as level_of, mean as mean_of, sample as sample_of};
 
 // Codes of each sign: half the words of odd and of even samples.
 pub(crate) const ODD_CODES: u16 = 512;
@@ -25,7 +25,7 @@ fn code_of(word: u16, half: u16) -> i32
 // The level of a code.
 fn level(code: i32, range: u8) -> i32
     requires { (mag code < 512) × (range ≤ 6) }
-    ensures value { result ≡ level-of range code }
+    ensures value { result ≡ level_of range code }
     ensures small { mag result < 2 ^ 17 }
     ensures basic { range ≤ 4 → mag result < 2 ^ 15 }
 {
@@ -35,7 +35,7 @@ fn level(code: i32, range: u8) -> i32
 // The level of a word, of a law with `half` codes of each sign.
 pub(crate) fn word_level(word: u16, half: u16, range: u8) -> i32
     requires { (word < 2 * half) × ((half ≤ 512) × (range ≤ 6)) }
-    ensures value { result ≡ level-of range (code_in half word) }
+    ensures value { result ≡ level_of range (code_in half word) }
     ensures small { mag result < 2 ^ 17 }
     ensures basic { range ≤ 4 → mag result < 2 ^ 15 }
 {
@@ -45,7 +45,7 @@ pub(crate) fn word_level(word: u16, half: u16, range: u8) -> i32
 // The mean of two levels.
 pub(crate) fn mean(before: i32, after: i32) -> i32
     requires { (mag before < 2 ^ 17) × (mag after < 2 ^ 17) }
-    ensures value { result ≡ mean-of before after }
+    ensures value { result ≡ mean_of before after }
     ensures small { mag result < 2 ^ 17 }
 {
     (before + after) >> 1
@@ -68,7 +68,7 @@ pub(crate) fn sample(level: i32) -> i32
 // The sample of an even sample's own share and the levels on both sides of it.
 pub(crate) fn even_sample(share: i32, before: i32, after: i32) -> i32
     requires { (mag share < 2 ^ 17) × ((mag before < 2 ^ 17) × (mag after < 2 ^ 17)) }
-    ensures value { result ≡ sample_of (share +ℤ mean-of before after) }
+    ensures value { result ≡ sample_of (share +ℤ mean_of before after) }
     ensures small { mag result < 2 ^ 13 }
 {
     sample(share + mean(before, after))

@@ -1,7 +1,7 @@
 -- A pair as it is sent: its blocks are blocks of samples, it carries their words, checks and range codes, all within their lengths.
 use Rattle.std.proofs.Common.{◌≡◌, ℕ, ◌+◌, ◌^◌, ◌<◌, Bool, true, false, cond, eqb, List, ◌++◌, get_or, ℤ, pos, sym, refl, subst, arith}
 use lib.Signed.{mag}
-use Rattle.std.specs.List.{AllByRecursion as All}
+use Rattle.std.specs.List.{AllByRecursion}
 use Rattle.std.proofs.ByRecursion.{All-get_or, All-from_get_or, All-append}
 use Rattle.std.proofs.lemmas.List.FromFn.{get_or-map-range_with_len, length-map-range_with_len}
 use Rattle.std.proofs.lemmas.Bool.{cond_both}
@@ -22,7 +22,7 @@ use Rattle.fidelity.proofs.SentBlocks.{Samples, word_sent}
 abbrev Small : ℤ → Type 0
 Small v = mag v < 2 ^ 13
 
-from_samples : (values : List ℤ) (place : ℕ) → All Small values → Samples (block_from values place)
+from_samples : (values : List ℤ) (place : ℕ) → AllByRecursion Small values → Samples (block_from values place)
 unfolding block_from
 from_samples values place all =
     let at = λ (k : ℕ). get_or values (place + k) (pos 0) in
@@ -33,7 +33,7 @@ from_samples values place all =
           subst Small (sym (get_or-map-range_with_len at 0 33 k k (pos 0) (omega (arith, length-map-range_with_len at 0 33)) (omega arith))) (small (place + k)));
     }
 
-pair_samples : (values : List ℤ) → IsPair values → All Small values
+pair_samples : (values : List ℤ) → IsPair values → AllByRecursion Small values
 pair_samples values p = All-from_get_or Small values (pos 0) p.bounded
 
 -- the range code of a block

@@ -3,7 +3,7 @@
 ghost use Rattle.std.specs.Prelude.{◌≡◌, ℕ, ◌^◌, ◌<◌};
 ghost use Rattle.guards.specs.Codes.{Code};
 ghost use Rattle.guards.specs.Division.{Divided, remainder, guard_syndrome, checks_of};
-ghost use Rattle.guards.specs.Parities.{guards, parities as parities-of};
+ghost use Rattle.guards.specs.Parities.{guards, parities as parities_of};
 ghost use Rattle.guards.specs.OfRanges.{code_of};
 ghost use Rattle.guards.specs.RangeWord.{range_syndrome, range_word, range_word_syndrome};
 ghost use Rattle.guards.specs.Laws.{range_law, guard_law};
@@ -138,7 +138,7 @@ pub(crate) const ALL_CHECKS: u32 = (1 << DEGREE) - 1;
 /// C1 to C5, C1 the highest bit, of the 24 parities of a block, p1 the highest.
 pub fn checks(parities: u32) -> u32
     ensures value { result ≡ checks_of parities }
-    ensures clean { (word : ℕ → ℕ) → parities-of word ≡ parities → guard_syndrome (guards word result) ≡ 0 }
+    ensures clean { (word : ℕ → ℕ) → parities_of word ≡ parities → guard_syndrome (guards word result) ≡ 0 }
     ensures small { result < 2 ^ 5 }
 {
     remainder((parities & ALL_PARITIES) << DEGREE)

@@ -1,13 +1,12 @@
 -- Values that a law holds are companded, none refused; and each of their words fits the word length.
-use Rattle.std.proofs.Common.{◌≡◌, ℕ, zero, suc, ◌+◌, ◌^◌, ◌<◌, ◌≤◌, Bool, true, false, cond, ◌&&◌, eqb, List, [], ◌∷◌, map, length, get_or, ℤ, pos, is_ok, Ok, Err, Result, sym, refl, ap, ◌∙◌, subst, ⊎_elim, arith}
+use Rattle.std.proofs.Common.{◌≡◌, ℕ, suc, ◌+◌, ◌^◌, ◌<◌, ◌≤◌, true, List, [], ◌∷◌, map, length, get_or, ℤ, pos, is_ok, Ok, Err, Result, sym, refl, ◌∙◌, subst, ⊎_elim, arith}
 use Rattle.std.proofs.lemmas.Int.{ints}
-use Rattle.std.proofs.lemmas.Bool.Decides.{nat_tests}
 use Rattle.std.proofs.lemmas.Nat.{pow_pos}
 use Rattle.std.proofs.lemmas.Bool.{cases_lt, cond-true, eq-eqb}
 use Rattle.std.proofs.lemmas.List.{get_or_past, get_or-map, length-map}
 use Rattle.words.specs.declared.faults.WordFault.{WordFault}
 use Rattle.words.specs.Meaning.{Meaning, Inside, CellRule, inside}
-use Rattle.words.specs.Answers.{Answer, gives, refuses, answer}
+use Rattle.words.specs.Answers.{gives, answer}
 use Rattle.words.specs.Lists.{unmade, first_refused, making_all}
 
 module _ (m : Meaning) where

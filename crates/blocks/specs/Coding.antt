@@ -1,7 +1,6 @@
 -- A coded block by its ranges and words.
 use Rattle.std.specs.Prelude.{ℕ, ◌*◌, List, map, ℤ, pos, slice_index_or}
 use Rattle.std.specs.List.{range_with_len}
-use Rattle.words.specs.Meaning.{Meaning}
 use Rattle.words.specs.Signed.{basic, additional}
 use Rattle.blocks.specs.declared.coded.CodedBlock.{CodedBlock}
 use Rattle.blocks.specs.Ranges.{basic_range, additional_range, differences}

@@ -1,5 +1,5 @@
 -- The two ranges of a block. Its 32 samples and the follower stand as 33 values: value k, from 0, is sample k + 1.
-use Rattle.std.specs.Prelude.{ℕ, zero, suc, ◌+◌, ◌*◌, ◌^◌, ◌<◌, ◌≤◌, Bool, true, false, cond, ◌&&◌, List, [], ◌∷◌, map, ℤ, pos, ◌-ℤ◌, ◌*ℤ◌, nat_lt, slice_index_or}
+use Rattle.std.specs.Prelude.{ℕ, zero, suc, ◌+◌, ◌*◌, ◌^◌, ◌<◌, ◌≤◌, Bool, true, cond, ◌&&◌, List, [], ◌∷◌, map, ℤ, pos, ◌-ℤ◌, ◌*ℤ◌, nat_lt, slice_index_or}
 use Rattle.std.specs.Int.Signed.{mag}
 use Rattle.std.specs.List.{range_with_len, AllByRecursion}
 

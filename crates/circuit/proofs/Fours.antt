@@ -1,10 +1,10 @@
 -- A pair recorded over its four arrivals is the pair given as the definition has it.
-use Rattle.std.proofs.Common.{◌≡◌, ℕ, ◌+◌, List, sym, refl, ap, ◌∙◌, arith}
+use Rattle.std.proofs.Common.{◌≡◌, ℕ, ◌+◌, refl, ap, ◌∙◌, arith}
 use Rattle.words.specs.Meaning.{Meaning}
 use Rattle.decoder.specs.Samples.{Received}
-use Rattle.reception.specs.Arrivals.{Arrival, lost_part, heard_of}
+use Rattle.reception.specs.Arrivals.{Arrival}
 use Rattle.reception.specs.Blocks.{block_heard}
-use Rattle.reception.specs.Given.{PairGiven, giving, block_at, pair_given}
+use Rattle.reception.specs.Given.{giving, block_at, pair_given}
 use Rattle.reception.specs.Recording.{begun_by, followed_by, completed_by}
 use Rattle.circuit.proofs.Receptions.{of_four}
 

@@ -1,14 +1,13 @@
 -- Frames sent are a function of the pairs put: what a sender holds after some pairs, and what each further one lets go.
-use Rattle.std.proofs.Common.{◌≡◌, ℕ, zero, suc, ◌+◌, ◌-◌, ◌<◌, ◌≤◌, Bool, true, false, cond, eqb, ltb, List, [], ◌∷◌, ◌++◌, map, length, get_or, ℤ, Some, None, Option, sym, refl, ap, ◌∙◌, subst, ⊎_elim, append_assoc, arith, length-append}
+use Rattle.std.proofs.Common.{◌≡◌, ℕ, zero, suc, ◌+◌, ◌-◌, ◌<◌, ◌≤◌, List, [], ◌∷◌, ◌++◌, map, length, get_or, ℤ, Some, None, Option, sym, refl, ap, ◌∙◌, subst, ⊎_elim, append_assoc, arith, length-append}
 use Rattle.std.proofs.lemmas.List.{get_or_append_left, get_or-append_right}
 use Rattle.std.proofs.lemmas.Bool.{cases_lt, lt-ltb, le-ltb, cond-true, cond-false}
-use Rattle.words.specs.Answers.{Answer, gives, refuses}
-use Rattle.words.specs.Meaning.{Meaning, middle}
-use Rattle.frames.specs.Frame.{Pair, frame, frame_of, before, blank}
+use Rattle.words.specs.Meaning.{middle}
+use Rattle.frames.specs.Frame.{Pair, frame, frame_of, before}
 use Rattle.frames.specs.Content.{Listed, listed}
 use Rattle.pairs.specs.Sending.{sent_pair}
-use Rattle.circuit.specs.Putting.{Source, Put, pair_from, fresh_source, refusing, accepting, putting, putting_words}
-use Rattle.circuit.specs.History.{Event, puts, puts_words, takes, loses, Outgoing, outgoing, sent_by, source_after, joined, sending, codes, FramesAreTheStandards}
+use Rattle.circuit.specs.Putting.{Source, Put, pair_from, fresh_source, accepting, putting, putting_words}
+use Rattle.circuit.specs.History.{Event, puts, puts_words, takes, loses, Outgoing, outgoing, joined, sending, codes, FramesAreTheStandards}
 use Rattle.circuit.proofs.Weaving.{frame_from_lists}
 use Rattle.circuit.proofs.Moves.{Move, idle, accepted, put_moves, words_move}
 

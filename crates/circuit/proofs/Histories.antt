@@ -1,5 +1,5 @@
 -- Every history keeps what a circuit promises.
-use Rattle.std.proofs.Common.{◌≡◌, ℕ, zero, suc, ◌+◌, ◌<◌, ◌≤◌, List, [], ◌∷◌, length, get_or, Some, None, Option, sym, refl, ap, ◌∙◌, subst, arith}
+use Rattle.std.proofs.Common.{◌≡◌, ℕ, ◌+◌, ◌<◌, ◌≤◌, List, length, get_or, Some, None, Option, sym, ap, ◌∙◌, subst, arith}
 use Rattle.words.specs.Meaning.{Meaning, CellRule, Wide}
 use Rattle.frames.specs.Frame.{frame}
 use Rattle.pairs.specs.Sending.{codes_of}
@@ -9,10 +9,10 @@ use Rattle.fidelity.specs.Crossing.{Crosses, HardlyHarmed, Unharmed, OneOctetHar
 use Rattle.circuit.specs.Putting.{fresh_source}
 use Rattle.circuit.specs.Taking.{fresh_sink}
 use Rattle.circuit.specs.History.{Event}
-use Rattle.circuit.specs.Promise.{sent, pair_put, frame_sent, heard, arrival, pair_out, PairsAreTheStandards, Crossed, OneOctetDamaged, NoneDamaged, Alike, Dependable}
+use Rattle.circuit.specs.Promise.{pair_put, frame_sent, heard, arrival, pair_out, PairsAreTheStandards, Crossed, OneOctetDamaged, NoneDamaged, Dependable}
 use Rattle.circuit.proofs.Puts.{proper}
 use Rattle.circuit.proofs.Frames.{frames_are_the_standards}
-use Rattle.circuit.proofs.Receptions.{outputs, of_four, whole, given_at, as_many, first_early}
+use Rattle.circuit.proofs.Receptions.{of_four, whole, given_at, as_many, first_early}
 use Rattle.circuit.proofs.Fours.{four_are_the_pair}
 
 some_is : {X : Type 0} (a b : X) → ◌≡◌ {A = Option X} (Some a) (Some b) → a ≡ b

@@ -1,14 +1,13 @@
 -- One more call at the end of a history: the frame that it writes is the history's next one, and so is the pair that it gives.
 use Rattle.std.proofs.Common.{◌≡◌, ℕ, zero, suc, ◌+◌, List, [], ◌∷◌, ◌++◌, length, get_or, ℤ, Some, None, Option, sym, refl, ap, ◌∙◌, append_assoc, append-nil, arith}
-use Rattle.words.specs.Answers.{Answer, gives}
+use Rattle.words.specs.Answers.{Answer}
 use Rattle.words.specs.Meaning.{Meaning}
 use Rattle.reception.specs.Arrivals.{Arrival}
-use Rattle.reception.specs.Given.{Told, PairGiven}
+use Rattle.reception.specs.Given.{PairGiven}
 use Rattle.circuit.specs.declared.sent.Sent.{Sent}
-use Rattle.circuit.specs.declared.sent.Sent.TheVariants.{Written}
-use Rattle.circuit.specs.Putting.{Source, Put, fresh_source}
-use Rattle.circuit.specs.Taking.{Sink, Took, Outcome, given, fresh_sink}
-use Rattle.circuit.specs.History.{Event, Outgoing, Incoming, put_seen, outgoing, take_seen, incoming, source_after, sent_by, sending, source_at, sink_after, received_by, receiving, sink_at}
+use Rattle.circuit.specs.Putting.{Source, fresh_source}
+use Rattle.circuit.specs.Taking.{Sink, Outcome, fresh_sink}
+use Rattle.circuit.specs.History.{Event, Outgoing, Incoming, put_seen, take_seen, source_after, sent_by, sending, source_at, sink_after, received_by, receiving, sink_at}
 use Rattle.circuit.specs.Promise.{sent, heard, WritesTheNextFrame, GivesTheNextPair}
 use Rattle.circuit.proofs.Receptions.{whole, as_many}
 

@@ -1,5 +1,5 @@
 -- What the measuring of a put says, and the put behind it.
-use Rattle.std.proofs.Common.{◌≡◌, ℕ, Bool, true, false, cond, eqb, List, length, sym, refl, ap, ◌∙◌, arith}
+use Rattle.std.proofs.Common.{◌≡◌, ℕ, List, ap, arith}
 use Rattle.std.proofs.lemmas.Bool.Decides.{nat_tests}
 use Rattle.words.specs.Answers.{Answer, gives}
 use Rattle.circuit.specs.Putting.{Source, Put, measuring, unless_refused}

@@ -1,6 +1,5 @@
 -- Each put is one of two: it changes nothing, or it puts a pair of samples.
-use Rattle.std.proofs.Common.{◌≡◌, ℕ, ◌^◌, ◌<◌, Bool, true, false, cond, List, map, length, get_or, ℤ, pos, Some, None, Option, sym, refl, ap, ◌∙◌, subst, arith}
-use lib.Signed.{mag}
+use Rattle.std.proofs.Common.{◌≡◌, ℕ, List, map, length, ℤ, Some, None, Option, refl, ◌∙◌}
 use Rattle.std.proofs.lemmas.List.{length-map}
 use Rattle.words.specs.declared.faults.Layer.{Layer}
 use Rattle.words.specs.Answers.{Answer, gives, refuses}

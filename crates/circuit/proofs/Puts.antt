@@ -1,8 +1,8 @@
 -- Whatever is put is a pair of samples, and no frame is sent but for a pair.
-use Rattle.std.proofs.Common.{◌≡◌, ℕ, zero, suc, ◌+◌, ◌<◌, ◌≤◌, List, [], ◌∷◌, ◌++◌, map, length, get_or, ℤ, Some, None, Option, sym, refl, ap, ◌∙◌, subst, arith, length-append}
+use Rattle.std.proofs.Common.{ℕ, zero, suc, ◌<◌, ◌≤◌, List, [], ◌∷◌, map, length, get_or, ℤ, Some, None, Option, sym, subst, arith}
 use Rattle.words.specs.Meaning.{middle}
 use Rattle.pairs.specs.Sending.{IsPair}
-use Rattle.circuit.specs.Putting.{Source, Put, refusing, accepting, putting, putting_words}
+use Rattle.circuit.specs.Putting.{Source, Put, accepting, putting, putting_words}
 use Rattle.circuit.specs.History.{Event, puts, puts_words, takes, loses, Outgoing, outgoing, sending, joined}
 use Rattle.circuit.proofs.Moves.{Move, idle, accepted, put_moves, words_move}
 

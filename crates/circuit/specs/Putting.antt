@@ -1,7 +1,7 @@
 -- What a put answers, writes and leaves.
-use Rattle.std.specs.Prelude.{ℕ, ◌+◌, ◌-◌, ◌^◌, Bool, true, false, cond, List, [], ◌∷◌, map, length, ℤ, Some, None, Option, ◌==◌, nat_lt, slice_index, slice_index_or}
+use Rattle.std.specs.Prelude.{ℕ, ◌+◌, ◌-◌, ◌^◌, cond, List, [], ◌∷◌, map, length, ℤ, Some, None, Option, ◌==◌, nat_lt, slice_index, slice_index_or}
 use Rattle.std.specs.Int.Signed.{mag}
-use Rattle.words.specs.declared.faults.Layer.TheVariants.{Pair, Frame, Word}
+use Rattle.words.specs.declared.faults.Layer.TheVariants.{Pair, Frame}
 use Rattle.words.specs.Answers.{Answer, gives, refuses}
 use Rattle.words.specs.Meaning.{Meaning, middle}
 use Rattle.words.specs.Lists.{first_refused}

@@ -1,5 +1,5 @@
 -- What a take or a loss answers, writes and leaves.
-use Rattle.std.specs.Prelude.{ℕ, ◌+◌, Bool, true, false, cond, List, length, Some, None, ◌==◌}
+use Rattle.std.specs.Prelude.{ℕ, ◌+◌, cond, List, length, Some, None, ◌==◌}
 use Rattle.words.specs.declared.faults.Layer.TheVariants.{Pair}
 use Rattle.words.specs.Answers.{Answer, gives, refuses}
 use Rattle.words.specs.Meaning.{Meaning}

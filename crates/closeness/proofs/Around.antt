@@ -1,12 +1,12 @@
 -- Where the level of a value's own code lies, and how far from the value a sample lies whose level is near that.
-use Rattle.std.proofs.Common.{◌≡◌, ℕ, ◌+◌, ◌*◌, ◌^◌, ◌<◌, ◌≤◌, ℤ, pos, negsuc, ◌+ℤ◌, ◌-ℤ◌, ◌*ℤ◌, nat_abs, ◌≤ℤ◌, ◌<ℤ◌, sym, refl, ap, ◌∙◌, subst, add-mul, mul-add, arith}
+use Rattle.std.proofs.Common.{◌≡◌, ℕ, ◌+◌, ◌*◌, ◌^◌, ◌<◌, ◌≤◌, ℤ, pos, negsuc, ◌+ℤ◌, ◌-ℤ◌, ◌*ℤ◌, ◌≤ℤ◌, ap, ◌∙◌, arith}
 use lib.Signed.{mag, shr_z}
 use borrow.Author.Differences.{up, down}
 use Rattle.std.proofs.lemmas.Int.{ints, clamps}
-use Rattle.decoder.specs.Levels.{level, mean, held, sample}
+use Rattle.decoder.specs.Levels.{held, sample}
 use Rattle.decoder.specs.Closeness.{distance}
 use Rattle.decoder.proofs.Products.{times_sum}
-use Rattle.decoder.proofs.Middles.{floor, middle, twice_is, mean_of_levels}
+use Rattle.decoder.proofs.Middles.{floor, middle}
 use Rattle.closeness.specs.Codes.{code}
 
 -- to hold a number within the samples takes it no further from a sample

@@ -1,5 +1,5 @@
 -- Sound samples stay close to the samples sent: their levels are near those of the codes sent, and these lie around the samples.
-use Rattle.std.proofs.Common.{◌≡◌, ℕ, ◌+◌, ◌-◌, ◌*◌, ◌%◌, ◌^◌, ◌<◌, ◌≤◌, true, false, cond, eqb, List, get_or, ℤ, pos, ◌+ℤ◌, ◌-ℤ◌, ◌*ℤ◌, ◌≤ℤ◌, sym, refl, ap, ◌∙◌, subst, add-mul, mul-add, arith}
+use Rattle.std.proofs.Common.{◌≡◌, ℕ, ◌+◌, ◌-◌, ◌*◌, ◌%◌, ◌^◌, ◌<◌, ◌≤◌, cond, eqb, List, ℤ, ◌+ℤ◌, sym, ap, ◌∙◌, subst, add-mul, mul-add, arith}
 use lib.Signed.{mag}
 use borrow.Author.Differences.{up, down}
 use Rattle.std.proofs.lemmas.Int.{ints}
@@ -7,16 +7,14 @@ use Rattle.std.proofs.lemmas.Nat.{pow_pos, pow-add}
 use Rattle.std.proofs.lemmas.Bool.{cond-true, cond-false, eq-eqb, ne_eqb}
 use Rattle.std.proofs.lemmas.Bool.Decides.{nat_tests}
 use Rattle.blocks.specs.Ranges.{difference}
-use Rattle.decoder.specs.declared.follower.Follower.{Follower}
 use Rattle.decoder.specs.Levels.{level, mean, sample}
-use Rattle.decoder.specs.Samples.{Received, level_at, samples_of}
-use Rattle.decoder.specs.Marks.{is_sound, sound}
-use Rattle.decoder.specs.Closeness.{distance, level_sent, reach, Arrived, Near}
+use Rattle.decoder.specs.Samples.{level_at}
+use Rattle.decoder.specs.Closeness.{distance, level_sent, reach}
 use Rattle.decoder.proofs.Middles.{middle, twice_is, mean_of_levels}
 use Rattle.decoder.proofs.Nearness.{stays_near}
 use Rattle.closeness.specs.Codes.{code, value, code_sent}
-use Rattle.closeness.specs.Bounds.{odd_bound, even_bound, Close, SoundSamplesStayClose}
-use Rattle.closeness.proofs.Around.{Around, around, three, sample_near}
+use Rattle.closeness.specs.Bounds.{odd_bound, even_bound, SoundSamplesStayClose}
+use Rattle.closeness.proofs.Around.{around, three, sample_near}
 
 -- an odd sample v of the range r, and an even one between p and n, of the ranges r and s, from levels near their codes' own
 odd_close : (e r : ℕ) (l v : ℤ) → mag v < 2 ^ 13 → distance l (level r (code (2 ^ r) v)) ≤ e * (4 * 2 ^ r)

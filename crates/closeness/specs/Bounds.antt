@@ -1,5 +1,5 @@
 -- How far sound samples may lie from the samples sent, where codes that count are off by at most e.
-use Rattle.std.specs.Prelude.{◌≡◌, ℕ, ◌+◌, ◌-◌, ◌*◌, ◌%◌, ◌^◌, ◌<◌, ◌≤◌, true, cond, List, ℤ, pos, ◌==◌, slice_index_or}
+use Rattle.std.specs.Prelude.{◌≡◌, ℕ, ◌+◌, ◌*◌, ◌%◌, ◌^◌, ◌<◌, ◌≤◌, true, cond, List, ℤ, pos, ◌==◌, slice_index_or}
 use Rattle.std.specs.Int.Signed.{mag}
 use Rattle.decoder.specs.declared.follower.Follower.{Follower}
 use Rattle.decoder.specs.Samples.{Received, samples_of}

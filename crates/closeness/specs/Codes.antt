@@ -1,5 +1,5 @@
 -- The codes that a sender has for a block, and what a word tells of them.
-use Rattle.std.specs.Prelude.{◌≡◌, ℕ, ◌+◌, ◌-◌, ◌*◌, ◌/◌, ◌%◌, ◌^◌, ◌<◌, ◌≤◌, Bool, true, false, cond, List, ℤ, pos, ◌==◌, slice_index_or}
+use Rattle.std.specs.Prelude.{◌≡◌, ℕ, ◌+◌, ◌-◌, ◌*◌, ◌/◌, ◌%◌, ◌^◌, ◌<◌, ◌≤◌, cond, List, ℤ, pos, ◌==◌, slice_index_or}
 use Rattle.std.specs.Int.Signed.{mag, shr_z}
 use Rattle.words.specs.Signed.{signed_word}
 use Rattle.blocks.specs.Ranges.{difference}

@@ -1,5 +1,5 @@
 -- The 149 guarded bits of a block in a row: five of each odd sample, four of each even one, five checks.
-use Rattle.std.proofs.Common.{◌≡◌, ℕ, ◌+◌, ◌-◌, ◌*◌, ◌/◌, ◌%◌, ◌^◌, ◌<◌, ◌≤◌, true, false, cond, eqb, ltb, List, map, sym, refl, ap, ◌∙◌, subst, arith}
+use Rattle.std.proofs.Common.{◌≡◌, ℕ, ◌+◌, ◌-◌, ◌*◌, ◌/◌, ◌%◌, true, false, cond, ltb, map, refl, arith}
 use Rattle.std.specs.List.{range_with_len}
 use Rattle.guards.specs.Parities.{fronts}
 use Rattle.frames.specs.Places.{Holds, range_bit, check_bit, IsBlock, IsSample, travels, place}

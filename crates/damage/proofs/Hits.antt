@@ -1,12 +1,11 @@
 -- A set of bits of a pair that lie in octets of their own: one damaged octet changes one of them at most.
-use Rattle.std.proofs.Common.{◌≡◌, ℕ, ◌+◌, ◌-◌, ◌*◌, ◌/◌, ◌%◌, ◌^◌, ◌<◌, ◌≤◌, Bool, true, false, not, ◌&&◌, eqb, ltb, ◌⊎◌, List, get_or, sym, refl, ap, ◌∙◌, subst, inl, inr, arith}
+use Rattle.std.proofs.Common.{◌≡◌, ℕ, ◌+◌, ◌-◌, ◌*◌, ◌/◌, ◌%◌, ◌^◌, ◌<◌, ◌≤◌, Bool, true, false, not, ◌&&◌, eqb, ltb, ◌⊎◌, List, get_or, sym, refl, ap, ◌∙◌, inl, inr, arith}
 use Rattle.std.proofs.lemmas.Bool.Decides.{nat_tests}
-use Rattle.std.proofs.lemmas.Bool.{and_parts, ltb-true, eqb-true, cases_order, and_cases, eqb-false}
+use Rattle.std.proofs.lemmas.Bool.{and_parts, ltb-true, eqb-true, cases_order}
 use Rattle.frames.specs.Places.{Holds, sample_bit, range_bit, check_bit, service_bit, spare_bit, index}
 use Rattle.frames.specs.Frame.{bit_at}
 use Rattle.damage.specs.Damage.{OneOctet}
 use Rattle.guards.specs.Counts.{below, each}
-use Rattle.guards.specs.Rows.{Bits}
 use Rattle.frames.proofs.Rows.{bit_at_bit}
 use Rattle.damage.proofs.Off.{OneOff, one_off}
 

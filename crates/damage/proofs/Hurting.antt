@@ -1,13 +1,13 @@
 -- What one damaged octet does to a block and to a range word.
-use Rattle.std.proofs.Common.{◌≡◌, ℕ, zero, suc, ◌+◌, ◌-◌, ◌*◌, ◌/◌, ◌%◌, ◌^◌, ◌<◌, ◌≤◌, Bool, true, false, cond, ◌&&◌, eqb, ltb, List, map, sym, refl, ap, ◌∙◌, subst, arith}
+use Rattle.std.proofs.Common.{◌≡◌, ℕ, ◌+◌, ◌-◌, ◌*◌, ◌/◌, ◌%◌, ◌^◌, ◌<◌, ◌≤◌, Bool, true, false, cond, eqb, ltb, List, map, sym, refl, ap, ◌∙◌, arith}
 use lib.Bits.{bit_xor}
 use Rattle.std.specs.List.{range_with_len}
 use Rattle.std.proofs.lemmas.Bool.{ltb-true, eqb-true, le-ltb, cond-false}
 use Rattle.guards.specs.Bits.{number, bit_in}
 use Rattle.guards.specs.Parities.{bits_of, guards, guard_bit, guard_of, fronts}
 use Rattle.frames.specs.Places.{Holds, range_bit, check_bit, IsBlock, IsSample, travels, lies, place, index}
-use Rattle.frames.specs.Frame.{Pair, heard_pair}
-use Rattle.damage.specs.Damage.{OneOctet, Near, Hurt, whole, hurt, RangeHurt, range_whole, range_hurt_at, BlockHurt, guard_at, touched, HardlyHurt, OneOctetHardlyHurts}
+use Rattle.frames.specs.Frame.{heard_pair}
+use Rattle.damage.specs.Damage.{OneOctet, Near, whole, hurt, RangeHurt, range_whole, range_hurt_at, BlockHurt, guard_at, touched, OneOctetHardlyHurts}
 use Rattle.guards.specs.Counts.{same_at, below, each}
 use Rattle.guards.specs.Rows.{Bits, number_same, bit_of_number}
 use Rattle.frames.proofs.Rows.{bit_at_bit}

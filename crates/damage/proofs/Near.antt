@@ -1,5 +1,5 @@
 -- A word whose front is kept and of which at most one bit behind it is changed.
-use Rattle.std.proofs.Common.{◌≡◌, ℕ, zero, suc, ◌+◌, ◌-◌, ◌*◌, ◌/◌, ◌%◌, ◌^◌, ◌<◌, ◌≤◌, sym, refl, ap, ◌∙◌, subst, arith}
+use Rattle.std.proofs.Common.{◌≡◌, ℕ, zero, suc, ◌+◌, ◌*◌, ◌<◌, ◌≤◌, arith}
 use Rattle.guards.specs.Bits.{number}
 use Rattle.damage.specs.Damage.{Near}
 use Rattle.guards.specs.Rows.{Bits, number_same, number_below}

@@ -1,9 +1,9 @@
 -- In each octet lies at most one guarded or check bit of a block, and at most one bit of the range word: one computed test.
-use Rattle.std.proofs.Common.{◌≡◌, ℕ, ◌+◌, ◌*◌, ◌/◌, ◌%◌, ◌<◌, ◌≤◌, Bool, true, cond, ◌&&◌, ltb, leb, List, map, refl, arith}
+use Rattle.std.proofs.Common.{◌≡◌, ℕ, true, cond, ltb, leb, map, refl, arith}
 use Rattle.std.specs.List.{range_with_len}
 use Rattle.std.proofs.lemmas.Bool.{leb-true}
-use Rattle.frames.specs.Places.{Holds, IsBlock, lies}
-use Rattle.damage.specs.Damage.{covered, is_range_bit, in_octet, LittleInOctet, OctetsHoldLittle}
+use Rattle.frames.specs.Places.{lies}
+use Rattle.damage.specs.Damage.{covered, is_range_bit, in_octet, OctetsHoldLittle}
 use Rattle.guards.specs.Counts.{same_at, below, each}
 
 abbrev guarded_in : ℕ → ℕ → ℕ → ℕ

@@ -1,5 +1,5 @@
 -- Two rows of bits that agree at all places but one.
-use Rattle.std.proofs.Common.{◌≡◌, ℕ, zero, suc, ◌+◌, ◌-◌, ◌*◌, ◌/◌, ◌%◌, ◌^◌, ◌<◌, ◌≤◌, Bool, true, false, ◌⊎◌, sym, refl, ap, ◌∙◌, subst, inl, inr, arith, below_more}
+use Rattle.std.proofs.Common.{◌≡◌, ℕ, zero, suc, ◌+◌, ◌-◌, ◌*◌, ◌^◌, ◌<◌, ◌≤◌, Bool, true, false, ◌⊎◌, sym, refl, ap, ◌∙◌, inl, inr, arith, below_more}
 use lib.Bits.{bit_xor, xor_block, xor_zero_r}
 use Rattle.std.proofs.lemmas.Nat.{pow-add}
 use Rattle.guards.specs.Bits.{number}

@@ -1,11 +1,11 @@
 -- The guard bits of two rows of guarded bits.
-use Rattle.std.proofs.Common.{◌≡◌, ℕ, zero, suc, ◌+◌, ◌-◌, ◌*◌, ◌/◌, ◌%◌, ◌^◌, ◌<◌, ◌≤◌, Bool, true, false, cond, ◌&&◌, eqb, ltb, leb, ◌⊎◌, List, map, sym, refl, ap, ◌∙◌, subst, inl, inr, arith}
+use Rattle.std.proofs.Common.{◌≡◌, ℕ, zero, suc, ◌+◌, ◌-◌, ◌*◌, ◌/◌, ◌%◌, ◌<◌, ◌≤◌, Bool, true, false, cond, ◌&&◌, eqb, ltb, leb, ◌⊎◌, map, sym, refl, ap, ◌∙◌, inl, inr, arith}
 use Rattle.std.specs.List.{range_with_len}
 use Rattle.std.proofs.lemmas.Bool.{and_parts, ltb-true, leb-true, eqb-true}
 use Rattle.guards.specs.Bits.{total}
 use Rattle.guards.specs.Parities.{guard_bit}
 use Rattle.guards.specs.Counts.{same_at, below, each}
-use Rattle.guards.specs.Rows.{Bits, last_or_before}
+use Rattle.guards.specs.Rows.{Bits}
 use Rattle.damage.proofs.Guarded.{in_row}
 
 -- sums of rows

@@ -1,5 +1,5 @@
 -- One damaged octet in four frames, and what it does to a pair.
-use Rattle.std.specs.Prelude.{◌≡◌, ℕ, ◌+◌, ◌-◌, ◌*◌, ◌/◌, ◌%◌, ◌^◌, ◌<◌, ◌≤◌, Bool, true, false, cond, ◌&&◌, List, ◌==◌, ◌≢◌, bit_xor, nat_le, nat_lt, slice_index}
+use Rattle.std.specs.Prelude.{◌≡◌, ℕ, ◌+◌, ◌-◌, ◌*◌, ◌/◌, ◌^◌, ◌<◌, ◌≤◌, cond, ◌&&◌, List, ◌==◌, ◌≢◌, bit_xor, nat_le, nat_lt, slice_index}
 use Rattle.guards.specs.Bits.{total}
 use Rattle.guards.specs.Parities.{guards, guard_of, fronts}
 use Rattle.frames.specs.Places.{Holds, sample_bit, range_bit, check_bit, service_bit, spare_bit, IsBlock, IsSample, lies_at}

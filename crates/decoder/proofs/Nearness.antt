@@ -1,5 +1,5 @@
 -- Where a sample is sound, its level is made of codes that count, so it is as near as they are.
-use Rattle.std.proofs.Common.{◌≡◌, ℕ, ◌+◌, ◌-◌, ◌*◌, ◌/◌, ◌%◌, ◌^◌, ◌<◌, ◌≤◌, Bool, true, false, cond, not, ◌&&◌, ◌||◌, eqb, ◌⊎◌, List, get_or, ℤ, pos, ◌+ℤ◌, ◌-ℤ◌, nat_abs, sym, refl, ap, ◌∙◌, subst, inl, inr, ⊎_elim, mul-add, arith}
+use Rattle.std.proofs.Common.{◌≡◌, ℕ, ◌+◌, ◌-◌, ◌*◌, ◌%◌, ◌^◌, ◌≤◌, Bool, true, false, cond, not, ◌&&◌, eqb, ℤ, pos, ◌+ℤ◌, sym, refl, ap, ◌∙◌, subst, ⊎_elim, mul-add, arith}
 use Rattle.std.proofs.lemmas.Int.{ints}
 use Rattle.std.proofs.lemmas.Bool.Decides.{nat_tests}
 use Rattle.std.proofs.lemmas.List.FromFn.{get_or-map-range_with_len}
@@ -7,10 +7,10 @@ use Rattle.std.proofs.lemmas.Bool.{and_parts, or_cases, not-true, cond-true, con
 use Rattle.decoder.specs.declared.follower.Follower.{Follower}
 use Rattle.decoder.specs.declared.follower.Follower.TheVariants.{Muted, Concealed, Sound}
 use Rattle.decoder.specs.Findings.{Finding, mutes, conceals}
-use Rattle.decoder.specs.Levels.{level, mean, sample}
-use Rattle.decoder.specs.Samples.{Received, code_at, plain, odd_level, share, after, side, level_at, sample_at, samples_of, follower_of}
+use Rattle.decoder.specs.Levels.{level, mean}
+use Rattle.decoder.specs.Samples.{Received, code_at, odd_level, after, side, level_at, sample_at, samples_of, follower_of}
 use Rattle.decoder.specs.Marks.{is_sound, sound}
-use Rattle.decoder.specs.Closeness.{distance, side_sent, level_sent, reach, Arrived, Near, StaysNear}
+use Rattle.decoder.specs.Closeness.{distance, side_sent, level_sent, reach, Arrived, StaysNear}
 use Rattle.decoder.proofs.Middles.{middle, middle_near, mean_of_levels}
 
 -- a level moves by four widths for each code, a mean of two levels by two widths of each

@@ -1,6 +1,6 @@
 -- The levels and samples of a received block. Samples count from 1 to 32, and the follower, the first sample of the next block,
 -- counts as 33.
-use Rattle.std.specs.Prelude.{ℕ, ◌+◌, ◌-◌, ◌%◌, Bool, true, false, cond, List, map, ℤ, pos, ◌+ℤ◌, ◌==◌}
+use Rattle.std.specs.Prelude.{ℕ, ◌+◌, ◌-◌, ◌%◌, cond, List, map, ℤ, pos, ◌+ℤ◌, ◌==◌}
 use Rattle.std.specs.List.{range_with_len}
 use Rattle.guards.specs.Words.{by_sample}
 use Rattle.decoder.specs.declared.follower.Follower.{Follower}

@@ -1,6 +1,6 @@
 -- A block's verdict: the first that applies. What a locator answered stands as its number and its position:
 -- 0 clean, 1 at a position, 2 nowhere.
-use Rattle.std.specs.Prelude.{◌≡◌, ℕ, ◌-◌, ◌*◌, ◌≤◌, Bool, true, false, cond, ◌&&◌, ◌==◌}
+use Rattle.std.specs.Prelude.{◌≡◌, ℕ, ◌-◌, ◌*◌, ◌≤◌, Bool, false, cond, ◌&&◌, ◌==◌}
 use Rattle.guards.specs.Parities.{guard_of}
 use Rattle.decoder.specs.Findings.{Finding, mute, clean, check, odd, pair, between, mutes, conceals}
 

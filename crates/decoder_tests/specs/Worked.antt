@@ -10,7 +10,7 @@ use Rattle.guards.specs.Parities.{guard_of}
 use Rattle.guards.specs.RangeCodes.{range_code}
 use Rattle.guards.specs.RangeWord.{range_word}
 use Rattle.blocks.specs.Ranges.{difference, basic_range, additional_range}
-use Rattle.decoder.specs.Findings.{Finding, mute}
+use Rattle.decoder.specs.Findings.{mute}
 use Rattle.decoder.specs.Levels.{code_of, level, mean, sample}
 use Rattle.decoder.specs.Verdicts.{by_guards}
 

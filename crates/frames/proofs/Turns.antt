@@ -1,9 +1,9 @@
 -- `lies` and `place` undo one another, computed over all places and all bits.
-use Rattle.std.proofs.Common.{◌≡◌, ℕ, ◌+◌, ◌-◌, ◌*◌, ◌/◌, ◌%◌, ◌<◌, ◌≤◌, Bool, true, ltb, List, map, sym, refl, ap, ◌∙◌, arith}
+use Rattle.std.proofs.Common.{◌≡◌, ℕ, ◌+◌, ◌-◌, ◌*◌, ◌/◌, ◌%◌, ◌<◌, ◌≤◌, true, ltb, List, map, refl, ap, ◌∙◌, arith}
 use Rattle.std.proofs.lemmas.Bool.{ltb-true}
 use Rattle.std.specs.List.{range_with_len}
 use Rattle.guards.specs.Parities.{bits_of}
-use Rattle.frames.specs.Places.{Holds, sample_bit, range_bit, check_bit, IsBlock, IsSample, delay, travels, lies, lies_at, place, index}
+use Rattle.frames.specs.Places.{Holds, range_bit, check_bit, IsBlock, IsSample, travels, lies, lies_at, place, index}
 use Rattle.guards.specs.Counts.{same_at}
 
 all_places : map (λ l. map (λ b. place (lies l b)) (range_with_len 1 80)) (range_with_len 1 8) ≡ map (λ l. map (λ b. (l, b)) (range_with_len 1 80)) (range_with_len 1 8)

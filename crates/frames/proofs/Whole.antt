@@ -1,14 +1,13 @@
 -- A frame is well coded by its types, its octets are 80 and never all ones, and reading them gives it back.
-use Rattle.std.proofs.Common.{◌≡◌, ℕ, zero, suc, ◌+◌, ◌-◌, ◌*◌, ◌/◌, ◌%◌, ◌^◌, ◌<◌, ◌≤◌, Bool, true, false, cond, ◌&&◌, eqb, ltb, ◌⊎◌, List, [], ◌∷◌, length, get_or, sym, refl, ap, ◌∙◌, subst, inl, inr, arith}
-use Rattle.std.specs.List.{range_with_len}
+use Rattle.std.proofs.Common.{◌≡◌, ℕ, zero, suc, ◌+◌, ◌-◌, ◌*◌, ◌/◌, ◌%◌, ◌^◌, ◌<◌, ◌≤◌, true, false, ◌&&◌, eqb, ltb, ◌⊎◌, List, [], ◌∷◌, length, get_or, sym, refl, ap, ◌∙◌, subst, inl, inr, arith}
 use Rattle.std.proofs.lemmas.List.FromFn.{get_or-map-range_with_len, length-map-range_with_len}
 use Rattle.std.proofs.lemmas.Bool.{and_left, and_right, cases_lt, cond-true, cond-false, cond_both, eq-eqb, ne_eqb, lt-ltb, le-ltb}
-use Rattle.words.specs.Answers.{Answer, gives}
+use Rattle.words.specs.Answers.{gives}
 use Rattle.guards.specs.Bits.{number}
 use Rattle.guards.specs.Parities.{bits_of}
 use Rattle.frames.specs.declared.content.GuardedBlock.{GuardedBlock}
 use Rattle.frames.specs.declared.content.Frame.{Frame}
-use Rattle.frames.specs.Places.{IsBlock, IsSample, lies_at}
+use Rattle.frames.specs.Places.{lies_at}
 use Rattle.frames.specs.Frame.{Pair, WellCoded, carried, packed, octets_of, heard}
 use Rattle.frames.specs.Content.{word_in, pair_in, listed}
 use Rattle.frames.specs.Answers.{all_ones, reading}

@@ -1,6 +1,6 @@
 -- What lies at each bit of a frame, and where each bit lies.
 -- Groups count from 1 to 8, bits of a group from 1 to 80, blocks from 1 to 2, samples of a block from 1 to 32.
-use Rattle.std.specs.Prelude.{◌≡◌, ℕ, ◌+◌, ◌-◌, ◌*◌, ◌/◌, ◌%◌, ◌≤◌, Bool, true, false, cond, List, [], ◌∷◌, get_or, ◌==◌, nat_lt, slice_index, slice_index_or}
+use Rattle.std.specs.Prelude.{◌≡◌, ℕ, ◌+◌, ◌-◌, ◌*◌, ◌/◌, ◌%◌, ◌≤◌, cond, List, [], ◌∷◌, get_or, ◌==◌, nat_lt, slice_index, slice_index_or}
 use Rattle.guards.specs.Parities.{bits_of}
 
 pub record IsBlock (block : ℕ) : Type 0 where

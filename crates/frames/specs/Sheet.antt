@@ -1,5 +1,5 @@
 -- The sheet of 632 cells on which a frame is laid out: bits 1 to 79 of each group in turn, bit 80 left out.
-use Rattle.std.specs.Prelude.{ℕ, zero, suc, ◌+◌, ◌*◌, ◌/◌, ◌%◌, Bool, true, false, cond, List, ◌==◌, slice_index}
+use Rattle.std.specs.Prelude.{ℕ, zero, suc, ◌+◌, ◌*◌, ◌/◌, ◌%◌, cond, List, ◌==◌, slice_index}
 use Rattle.guards.specs.Bits.{bit_in}
 
 -- Bit i of the frame, from 0, by the cells.

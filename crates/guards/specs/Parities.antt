@@ -1,6 +1,6 @@
 -- The guard bits of a block: 24 parities over the highest bits of its words, then five checks.
 -- Samples count from 1 to 32, bits of a word from 1, the highest.
-use Rattle.std.specs.Prelude.{ℕ, ◌+◌, ◌-◌, ◌*◌, ◌/◌, ◌%◌, Bool, true, false, cond, nat_lt}
+use Rattle.std.specs.Prelude.{ℕ, ◌+◌, ◌-◌, ◌*◌, ◌/◌, ◌%◌, cond, nat_lt}
 use Rattle.guards.specs.Bits.{number, bit_in, total}
 
 -- Odd samples have words of 10 bits, even ones of 9.

@@ -1,5 +1,5 @@
 -- What `cross` leaves, from what it read, what the gate made of that and what was written.
-use Rattle.std.proofs.Common.{◌≡◌, ℕ, Bool, true, false, cond, List, map, replicate, ℤ, pos, sym, refl, ap, ◌∙◌, w16, to_z, of_z}
+use Rattle.std.proofs.Common.{◌≡◌, ℕ, Bool, true, false, cond, List, map, replicate, ℤ, pos, sym, refl, ap, ◌∙◌}
 use Rattle.std.proofs.lemmas.List.{map-id}
 use Rattle.raw.specs.Octets.{numbers_in, octets_in}
 use Rattle.words.specs.Meaning.{middle}

@@ -1,13 +1,12 @@
 -- Where words were made of all values, they are read again: by the cell rule, for any law.
-use Rattle.std.proofs.Common.{◌≡◌, ℕ, ◌+◌, Bool, true, false, cond, eqb, List, [], ◌∷◌, map, length, ℤ, ◌≤ℤ◌, sym, refl, ap, ◌∙◌, arith}
-use lib.Signed.{le_z, le_z_yes}
+use Rattle.std.proofs.Common.{◌≡◌, ℕ, ◌+◌, List, [], ◌∷◌, map, length, ℤ, sym, refl, ap, ◌∙◌, arith}
 use Rattle.std.proofs.lemmas.Int.{ints}
 use Rattle.std.proofs.lemmas.Bool.Decides.{nat_tests}
 use Rattle.std.proofs.lemmas.Bool.{cond-true, eq-eqb}
 use Rattle.std.proofs.lemmas.List.{length-map}
-use Rattle.words.specs.Answers.{Answer, gives, refuses}
+use Rattle.words.specs.Answers.{gives}
 use Rattle.words.specs.Lists.{first_refused, unmade, making_all, reading_all}
-use Rattle.words.specs.Meaning.{Meaning, CellRule, Inside, inside, middle}
+use Rattle.words.specs.Meaning.{Meaning, CellRule, Inside, middle}
 use Rattle.j41gate.specs.Trial.{distances, moved, largest, after, passing}
 
 moved_is : (m : Meaning) (vs : List ℤ) → distances vs (map (middle m) (map m.word vs)) ≡ map (moved m) vs

@@ -1,5 +1,5 @@
 -- The task that a list of arguments names, by how many there are.
-use Rattle.std.proofs.Common.{◌≡◌, ℕ, ◌<◌, ◌≤◌, List, [], ◌∷◌, map, length, get_or, Some, None, sym, refl, ap, ◌∙◌, arith}
+use Rattle.std.proofs.Common.{◌≡◌, ℕ, ◌<◌, ◌≤◌, List, [], ◌∷◌, map, length, get_or, Some, None, sym, refl, ap, arith}
 use Rattle.j41gate.specs.Task.{by_name, by_arguments}
 use Rattle.j41gate.specs.declared.task.Task.TheVariants.{Report}
 

@@ -1,5 +1,5 @@
 -- What is read under variant B is a sample, so it fits 16 bits.
-use Rattle.std.proofs.Common.{◌≡◌, ℕ, zero, suc, ◌+◌, ◌<◌, Bool, true, false, cond, ◌&&◌, eqb, ltb, List, [], ◌∷◌, map, length, get_or, replicate, ℤ, pos, is_ok, Ok, Err, Result, sym, refl, ap, ◌∙◌, subst, arith, w16, SFits}
+use Rattle.std.proofs.Common.{◌≡◌, ℕ, zero, suc, ◌+◌, ◌<◌, Bool, true, cond, ◌&&◌, ltb, List, [], ◌∷◌, map, length, get_or, replicate, ℤ, pos, is_ok, Ok, Err, Result, sym, refl, ◌∙◌, subst, arith, w16, SFits}
 use lib.Signed.{mag}
 use Rattle.std.proofs.lemmas.Bool.Decides.{nat_tests, Decides-ltb, Decides-below_and}
 use Rattle.std.proofs.lemmas.Bool.{cond-true, eq-eqb}

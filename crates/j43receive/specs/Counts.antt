@@ -2,7 +2,6 @@
 use Rattle.std.specs.Prelude.{ℕ, ◌+◌, ◌*◌, ◌≤◌, cond, List, ◌++◌, Some, None, codes, decimal, Option}
 use Rattle.words.specs.declared.faults.Refusal.{Refusal}
 use Rattle.decoder.specs.Findings.{Finding, mutes, finding}
-use Rattle.reception.specs.declared.report.Report.{Report}
 use Rattle.fidelity.specs.Kept.{unmarked}
 use Rattle.circuit.specs.declared.taken.Taken.{Taken}
 use Rattle.circuit.specs.declared.taken.Taken.TheVariants.{Early, Given}

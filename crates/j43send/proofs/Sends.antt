@@ -1,11 +1,11 @@
 -- What `send` leaves, by what the put of its pair answered.
-use Rattle.std.proofs.Common.{◌≡◌, ℕ, List, ℤ, Some, None, Option, sym, refl, ap, ◌∙◌, arith}
+use Rattle.std.proofs.Common.{◌≡◌, ℕ, List, ℤ, Some, None, Option, refl, ap, ◌∙◌, arith}
 use Rattle.words.specs.declared.faults.Layer.{Layer}
 use Rattle.words.specs.Answers.{Answer, gives, refuses}
 use Rattle.circuit.specs.declared.sent.Sent.{Sent}
 use Rattle.circuit.specs.Putting.{Source, Put, accepting, putting}
 use Rattle.circuit.proofs.Moves.{Move, idle, accepted, put_moves}
-use Rattle.j43send.specs.Sending.{or_else, silent}
+use Rattle.j43send.specs.Sending.{or_else}
 
 -- a pair that was put is what is sent
 pub kept : (put silence : Put) (x : Sent) → gives x ≡ put.answer → put ≡ or_else put.answer put silence

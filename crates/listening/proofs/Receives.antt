@@ -1,5 +1,5 @@
 -- What `receive` leaves, by what the take of its frame answered.
-use Rattle.std.proofs.Common.{◌≡◌, ℕ, Bool, true, false, cond, eqb, List, length, Some, None, Option, sym, refl, ap, ◌∙◌, arith}
+use Rattle.std.proofs.Common.{◌≡◌, ℕ, Bool, true, false, cond, eqb, List, length, Some, refl, ap, ◌∙◌, arith}
 use Rattle.words.specs.declared.faults.Layer.{Layer}
 use Rattle.words.specs.Answers.{Answer, gives, refuses}
 use Rattle.words.specs.Meaning.{Meaning}

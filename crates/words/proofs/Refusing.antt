@@ -1,11 +1,11 @@
 -- The search of a list for its first refusal, step by step; what one call says of one element; and a list written from
 -- another, element by element.
-use Rattle.std.proofs.Common.{◌≡◌, ℕ, zero, suc, ◌+◌, ◌<◌, ◌≤◌, Bool, true, false, cond, eqb, ltb, List, [], ◌∷◌, ◌++◌, map, length, get_or, take, drop, set, ℤ, sym, refl, ap, ◌∙◌, subst, inl, inr, ⊎_elim, arith}
+use Rattle.std.proofs.Common.{◌≡◌, ℕ, zero, suc, ◌+◌, ◌<◌, ◌≤◌, List, [], ◌∷◌, ◌++◌, map, length, get_or, take, drop, set, ℤ, sym, ap, ◌∙◌, arith}
 use Rattle.std.proofs.lemmas.Bool.Decides.{nat_tests}
 use Rattle.std.proofs.lemmas.Bool.{eq-eqb, ne_eqb, cond-true, cond-false}
 use Rattle.std.proofs.lemmas.List.{drop_more, drop_all, length-map, length-take-le, set_at, map_more, append_assoc, append-nil, take_all}
-use Rattle.words.specs.Meaning.{Meaning, inside, middle}
-use Rattle.words.specs.Answers.{Answer, gives, refuses, making, reading, answer}
+use Rattle.words.specs.Meaning.{Meaning, middle}
+use Rattle.words.specs.Answers.{gives, refuses, making, reading}
 use Rattle.words.specs.declared.faults.Layer.{Layer}
 use Rattle.words.specs.declared.faults.Layer.TheVariants.{Word}
 use Rattle.words.specs.Lists.{first_refused, unmade}

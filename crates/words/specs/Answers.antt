@@ -1,5 +1,5 @@
 -- What a call answers: a value, or a refusal by its number, place and layer; and the answers of making and reading one word.
-use Rattle.std.specs.Prelude.{ℕ, Bool, true, false, cond, ℤ, Ok, Err, Result, ◌==◌}
+use Rattle.std.specs.Prelude.{ℕ, cond, ℤ, Ok, Err, Result, ◌==◌}
 use Rattle.words.specs.declared.faults.WordFault.{WordFault}
 use Rattle.words.specs.declared.faults.Layer.{Layer}
 use Rattle.words.specs.declared.faults.Layer.TheVariants.{Word}

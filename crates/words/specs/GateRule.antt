@@ -1,11 +1,11 @@
 -- The cell rule of variant B: by the segments of magnitudes, then by the eleven bits of each sign, then by the word.
-use Rattle.std.specs.Prelude.{◌≡◌, ℕ, ◌+◌, ◌-◌, ◌*◌, ◌/◌, ◌%◌, ◌^◌, ◌<◌, ◌≤◌, Bool, true, false, cond, ℤ, pos, negsuc, ◌+ℤ◌, ◌-ℤ◌, ◌≤ℤ◌, ◌<ℤ◌, ◌≢◌, nat_lt, refl}
-use Rattle.std.proofs.Common.{sym, ap, subst, ◌∙◌, inl, inr, ⊎_elim, arith}
+use Rattle.std.specs.Prelude.{◌≡◌, ℕ, ◌+◌, ◌-◌, ◌*◌, ◌/◌, ◌%◌, ◌^◌, ◌<◌, ◌≤◌, true, false, ℤ, pos, negsuc, ◌+ℤ◌, ◌-ℤ◌, ◌≤ℤ◌, ◌<ℤ◌, ◌≢◌, nat_lt}
+use Rattle.std.proofs.Common.{sym, ap, subst, ◌∙◌, ⊎_elim, arith}
 use Rattle.std.proofs.lemmas.Int.{ints}
 use Rattle.std.proofs.lemmas.Bool.Decides.{nat_tests}
 use Rattle.std.proofs.lemmas.Bool.{lt-ltb, le-ltb, cond-true, cond-false, cases_lt, eq-eqb}
-use Rattle.words.specs.Meaning.{Meaning, Inside, InCell, CellRule}
-use Rattle.words.specs.VariantB.{variant_b, code_of, first_of, step_of, parity, eleven_bits, front_of, gate_word, gate_low, gate_width, gate_refusal}
+use Rattle.words.specs.Meaning.{Inside, InCell, CellRule}
+use Rattle.words.specs.VariantB.{variant_b, code_of, first_of, step_of, parity, front_of, gate_word, gate_low, gate_width, gate_refusal}
 use Rattle.words.specs.Answers.{gives, reading}
 use Rattle.words.specs.Segments.{code_below, code_in, code_back}
 

@@ -1,5 +1,5 @@
 -- The linear law: 14 bits in two's complement, a cell for each value.
-use Rattle.std.specs.Prelude.{ℕ, ◌-◌, ◌^◌, Bool, true, false, cond, ℤ, pos, negsuc, nat_lt}
+use Rattle.std.specs.Prelude.{ℕ, ◌-◌, cond, ℤ, pos, negsuc, nat_lt}
 use Rattle.words.specs.Meaning.{Meaning}
 
 -- negsuc a is -1 - a, so its two's complement is 2^14 - 1 - a.

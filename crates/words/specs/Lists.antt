@@ -1,6 +1,5 @@
 -- Lists of values or words under a law: the room for the output, the first refusal, and what is written.
-use Rattle.std.specs.Prelude.{ℕ, ◌+◌, Bool, true, false, cond, List, [], ◌∷◌, length, ℤ, ◌==◌}
-use Rattle.words.specs.declared.faults.Layer.{Layer}
+use Rattle.std.specs.Prelude.{ℕ, ◌+◌, cond, List, [], ◌∷◌, length, ℤ, ◌==◌}
 use Rattle.words.specs.declared.faults.Layer.TheVariants.{Word, Pair}
 use Rattle.words.specs.Meaning.{Meaning, inside}
 use Rattle.words.specs.Answers.{Answer, gives, refuses}

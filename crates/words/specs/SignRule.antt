@@ -1,15 +1,15 @@
 -- The cell rule of every law of a sign and a magnitude, over the number of codes and the width, and what making and
 -- reading answer by the magnitude.
-use Rattle.std.specs.Prelude.{◌≡◌, ℕ, ◌+◌, ◌-◌, ◌*◌, ◌/◌, ◌%◌, ◌^◌, ◌<◌, ◌≤◌, Bool, true, false, cond, ℤ, pos, negsuc, ◌+ℤ◌, ◌-ℤ◌, ◌≤ℤ◌, ◌<ℤ◌, nat_lt, refl}
-use Rattle.std.proofs.Common.{sym, ap, subst, ◌∙◌, inl, inr, ⊎_elim, arith, add-mul}
-use Rattle.std.specs.Int.Signed.{mag, le_z}
+use Rattle.std.specs.Prelude.{◌≡◌, ℕ, ◌+◌, ◌-◌, ◌*◌, ◌/◌, ◌^◌, ◌<◌, ◌≤◌, cond, ℤ, pos, negsuc, ◌+ℤ◌, ◌-ℤ◌, ◌≤ℤ◌, ◌<ℤ◌, nat_lt}
+use Rattle.std.proofs.Common.{sym, ap, subst, ◌∙◌, ⊎_elim, arith, add-mul}
+use Rattle.std.specs.Int.Signed.{mag}
 use Rattle.words.specs.declared.faults.Layer.TheVariants.{Word}
 use Rattle.words.specs.Answers.{making, reading, gives, refuses}
 use Rattle.std.proofs.lemmas.Int.{ints}
 use Rattle.std.proofs.lemmas.Bool.Decides.{nat_tests}
 use Rattle.std.proofs.lemmas.Bool.{lt-ltb, le-ltb, cond-true, cond-false, cases_lt}
-use Rattle.std.proofs.lemmas.Nat.{div_below, mod_below, div-add-mod', div-mul-add, mul-le, shr_split}
-use Rattle.words.specs.Meaning.{Meaning, Inside, InCell, CellRule}
+use Rattle.std.proofs.lemmas.Nat.{div_below, mod_below, div-add-mod', div-mul-add, mul-le}
+use Rattle.words.specs.Meaning.{Inside, InCell, CellRule}
 use Rattle.words.specs.Signed.{signed, signed_low, signed_word}
 
 module _ (bits half width : ℕ) (hp : 0 < half) (wp : 0 < width) (few : bits ≤ 16) (fit : 2 * half ≡ 2 ^ bits) where

@@ -1,5 +1,5 @@
 -- Laws of a sign and a magnitude, with `half` codes of each sign, each `width` values wide, and the two that J.43 uses.
-use Rattle.std.specs.Prelude.{ℕ, ◌+◌, ◌-◌, ◌*◌, ◌/◌, ◌^◌, Bool, true, false, cond, ℤ, pos, negsuc, nat_lt}
+use Rattle.std.specs.Prelude.{ℕ, ◌+◌, ◌-◌, ◌*◌, ◌/◌, ◌^◌, cond, ℤ, pos, negsuc, nat_lt}
 use Rattle.words.specs.Meaning.{Meaning}
 
 -- A code is the value divided by the width, rounded down. A code of 0 or more is sent as itself, a negative code c as a

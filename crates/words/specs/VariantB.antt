@@ -1,5 +1,5 @@
 -- J.41 variant B: 12 bits, which are a sign, three bits for the segment, seven for the place in it, and a parity.
-use Rattle.std.specs.Prelude.{ℕ, ◌+◌, ◌-◌, ◌*◌, ◌/◌, ◌%◌, Bool, true, false, cond, ℤ, pos, negsuc, ◌==◌, count_ones, nat_lt}
+use Rattle.std.specs.Prelude.{ℕ, ◌+◌, ◌-◌, ◌*◌, ◌/◌, ◌%◌, cond, ℤ, pos, negsuc, ◌==◌, count_ones, nat_lt}
 use Rattle.words.specs.Meaning.{Meaning}
 
 -- The code of a magnitude: steps of 1, then 2, 4, 8, 16 and 32 from 256, 512, 1024, 2048 and 4096 on.

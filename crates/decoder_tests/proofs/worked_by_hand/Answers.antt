@@ -1,6 +1,5 @@
 use Rattle.std.proofs.Common.{refl}
 use lib.Count.{ones}
-use Rattle.decoder_tests.specs.Worked.{Worked}
 use Rattle.guards.specs.Division.{columns, remainder, guard_syndrome}
 use Rattle.guards.specs.Mended.{range_found, mended}
 use Rattle.guards.specs.RangeWord.{range_word, range_syndrome, range_word_syndrome}

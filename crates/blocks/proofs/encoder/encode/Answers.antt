@@ -1,8 +1,8 @@
-use Rattle.std.proofs.Common.{◌≡◌, ℕ, ◌+◌, ◌^◌, ◌<◌, List, map, get_or, ℤ, pos, sym, ap, ◌∙◌, subst, arith}
+use Rattle.std.proofs.Common.{◌≡◌, ℕ, List, map, get_or, ℤ, pos, sym, ap, ◌∙◌, subst}
 use Rattle.words.specs.Meaning.{Inside}
 use Rattle.words.specs.Signed.{basic, additional}
 use Rattle.blocks.specs.Ranges.{basic_range, additional_range, differences}
-use Rattle.blocks.specs.Coding.{Code, odd_samples, coded}
+use Rattle.blocks.specs.Coding.{odd_samples, coded}
 use Rattle.blocks.proofs.Ranging.{odd_inside, even_inside, basic_is, additional_is}
 use Rattle.blocks.proofs.encoder.encode.Goals as goal
 

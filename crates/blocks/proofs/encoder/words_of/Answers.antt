@@ -1,4 +1,4 @@
-use Rattle.std.proofs.Common.{◌≡◌, ℕ, ◌^◌, ◌<◌, cond, List, map, length, get_or, pos, sym, ap, ◌∙◌, subst, arith, rules}
+use Rattle.std.proofs.Common.{◌≡◌, ℕ, ◌^◌, ◌<◌, List, length, get_or, pos, sym, ◌∙◌, subst, arith, rules}
 use Rattle.words.specs.Meaning.{Inside}
 use Rattle.std.proofs.lemmas.Bool.{cond-true}
 use Rattle.blocks.proofs.Made.{all_made, words_short, gave}

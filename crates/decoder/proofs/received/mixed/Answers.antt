@@ -1,4 +1,4 @@
-use Rattle.std.proofs.Common.{◌≡◌, ℕ, ◌+◌, ◌*◌, ◌^◌, ◌<◌, length, get_or, set, ℤ, pos, ◌+ℤ◌, sym, ◌∙◌, subst, arith, length-set, w32, SFits, rules}
+use Rattle.std.proofs.Common.{◌+◌, ◌*◌, ◌^◌, ◌<◌, length, get_or, set, ℤ, pos, ◌+ℤ◌, sym, ◌∙◌, subst, arith, length-set, w32, SFits, rules}
 use lib.Signed.{mag}
 use Rattle.std.proofs.lemmas.Int.{to_z-of_z}
 use Rattle.decoder.specs.Levels.{mean, sample}

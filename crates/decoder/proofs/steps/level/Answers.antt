@@ -1,5 +1,4 @@
-use Rattle.std.proofs.Common.{◌≡◌, ◌+◌, ◌*◌, ◌%◌, ◌^◌, ◌≤◌, ℤ, pos, ◌+ℤ◌, ◌*ℤ◌, nat_abs, ap, ◌∙◌, arith, w32, SFits, to_z}
-use lib.Signed.{mag}
+use Rattle.std.proofs.Common.{◌+◌, ◌^◌, ◌≤◌, pos, ◌+ℤ◌, ◌*ℤ◌, nat_abs, ap, arith, w32, SFits}
 use Rattle.std.proofs.lemmas.Int.{ints, to_z-of_z}
 use Rattle.decoder.proofs.Products.{times_abs}
 use Rattle.decoder.proofs.Sizes.{power_le, product_fits, shl_is, two_power, mag_abs}

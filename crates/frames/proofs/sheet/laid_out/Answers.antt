@@ -1,4 +1,4 @@
-use Rattle.std.proofs.Common.{◌≡◌, refl, arith}
+use Rattle.std.proofs.Common.{arith}
 use lib.ListN.{get_or-replicate}
 use Rattle.frames.proofs.Tables.{seven_writes}
 use Rattle.frames.proofs.sheet.laid_out.Goals as goal

@@ -1,4 +1,4 @@
-use Rattle.std.proofs.Common.{◌≡◌, ◌+◌, ◌^◌, ◌<◌, ◌≤◌, get_or}
+use Rattle.std.proofs.Common.{◌≡◌, ◌+◌, ◌^◌, ◌<◌, get_or}
 use Rattle.guards.specs.Bits.{number}
 use Rattle.frames.proofs.sheet.read_bits.Given as goal
 

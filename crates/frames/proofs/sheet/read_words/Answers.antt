@@ -1,5 +1,4 @@
 use Rattle.std.proofs.Common.{◌≡◌, ℕ, ◌+◌, ◌^◌, ◌<◌, length, get_or, set, ap, ◌∙◌, subst, arith, length-set}
-use lib.ListN.{get_or-replicate}
 use Rattle.std.proofs.lemmas.List.Edits.{fill_by_more}
 use Rattle.guards.specs.Bits.{number}
 use Rattle.frames.specs.Sheet.{start_of}

@@ -1,4 +1,4 @@
-use Rattle.std.proofs.Common.{◌≡◌, ℕ, ◌<◌, length, get_or, sym, ap, ◌∙◌, arith}
+use Rattle.std.proofs.Common.{◌≡◌, ℕ, ◌<◌, length, get_or, ap, ◌∙◌, arith}
 use Rattle.frames.specs.Sheet.{start_of, over}
 use Rattle.frames.proofs.Cells.{halves_more}
 use Rattle.frames.proofs.sheet.write_words.Goals as goal

@@ -1,4 +1,4 @@
-use Rattle.std.proofs.Common.{◌≡◌, ℕ, ◌+◌, List, [], ◌∷◌, ◌++◌, map, length, get_or, take, drop, set, replicate, ℤ, pos, sym, ap, ◌∙◌, arith, w16, SFits, rules}
+use Rattle.std.proofs.Common.{◌≡◌, ◌+◌, ◌++◌, map, length, get_or, take, drop, set, replicate, pos, sym, ap, ◌∙◌, arith, w16, SFits, rules}
 use Rattle.std.proofs.lemmas.Int.{to_z-of_z}
 use Rattle.std.proofs.lemmas.List.{length-map, length-take-le, take_more, take_all, map_push}
 use Rattle.raw.proofs.Written.{put_one, put_all}

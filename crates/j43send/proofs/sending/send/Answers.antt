@@ -1,5 +1,4 @@
-use Rattle.std.proofs.Common.{◌≡◌, ℕ, List, ℤ, sym, ap, ◌∙◌}
-use Rattle.words.specs.Answers.{Answer}
+use Rattle.std.proofs.Common.{◌≡◌, ℕ, List, ap, ◌∙◌}
 use Rattle.circuit.specs.Putting.{Source, Put, source_of, accepting, putting}
 use Rattle.telling.specs.Told.{refused_by}
 use Rattle.j43send.specs.Sending.{sending, samples_in, silent}

@@ -1,9 +1,8 @@
-use Rattle.std.proofs.Common.{◌≡◌, ℕ, cond, eqb, List, ℤ, sym, refl, ap, ◌∙◌, subst}
+use Rattle.std.proofs.Common.{◌≡◌, ℕ, cond, eqb, ap, ◌∙◌}
 use Rattle.guards.specs.RangeCodes.{range_code}
 use Rattle.guards.specs.RangeWord.{range_word}
 use Rattle.guards.specs.Division.{checks_of}
 use Rattle.guards.specs.Parities.{parities}
-use Rattle.guards.specs.declared.ranges.Ranges.{Ranges}
 use Rattle.blocks.specs.declared.coded.CodedBlock.{CodedBlock}
 use Rattle.blocks.specs.Coding.{Code, code_of, coded as code}
 use Rattle.frames.specs.declared.content.GuardedBlock.{GuardedBlock}

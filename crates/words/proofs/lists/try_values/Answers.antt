@@ -1,4 +1,4 @@
-use Rattle.std.proofs.Common.{◌≡◌, get_or, pos, sym, ◌∙◌, w32, SFits, rules}
+use Rattle.std.proofs.Common.{get_or, pos, sym, ◌∙◌, w32, SFits, rules}
 use Rattle.std.proofs.lemmas.Int.{to_z-of_z}
 use Rattle.words.specs.Faults.{number_of}
 use Rattle.words.specs.Lists.{unmade}

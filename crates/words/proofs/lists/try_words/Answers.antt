@@ -1,4 +1,4 @@
-use Rattle.std.proofs.Common.{◌≡◌, get_or, sym, ◌∙◌}
+use Rattle.std.proofs.Common.{get_or, sym, ◌∙◌}
 use Rattle.words.specs.Faults.{number_of}
 use Rattle.words.proofs.Refusing.{refusal_more, refusal_stop, refusal_end, read_no, read_yes}
 use Rattle.words.proofs.lists.try_words.Goals as goal

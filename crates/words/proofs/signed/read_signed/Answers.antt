@@ -1,8 +1,6 @@
-use Rattle.std.proofs.Common.{◌≡◌, ℕ, ◌-◌, ◌^◌, sym, ap, ◌∙◌, subst, arith, rules}
+use Rattle.std.proofs.Common.{◌-◌, arith, rules}
 use Rattle.std.proofs.lemmas.Nat.{mul-le}
 use Rattle.std.proofs.lemmas.Int.{ints}
-use Rattle.words.specs.Answers.{gives, reading}
-use Rattle.words.specs.Signed.{signed}
 use Rattle.words.specs.SignRule.{read_pos, read_neg}
 use Rattle.words.proofs.signed.read_signed.Goals as goal
 

@@ -1,4 +1,3 @@
-use Rattle.std.proofs.Common.{refl}
 use Rattle.fidelity.proofs.Fidelity.{one_octet_hardly_harms, no_damage_no_harm}
 use Rattle.circuit.proofs.Histories.{dependable}
 use Rattle.circuit.proofs.circuit.Circuit.new.Goals as goal

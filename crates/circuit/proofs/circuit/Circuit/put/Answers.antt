@@ -1,9 +1,9 @@
-use Rattle.std.proofs.Common.{◌≡◌, ℕ, List, sym, refl, ap, ◌∙◌}
+use Rattle.std.proofs.Common.{refl, ap, ◌∙◌}
 use Rattle.words.specs.Answers.{Answer}
 use Rattle.circuit.specs.declared.sent.Sent.{Sent}
 use Rattle.circuit.specs.Faults.{answer}
-use Rattle.circuit.specs.Putting.{Put, source_of, putting}
-use Rattle.circuit.specs.History.{Outgoing, puts, put_seen}
+use Rattle.circuit.specs.Putting.{source_of, putting}
+use Rattle.circuit.specs.History.{puts, put_seen}
 use Rattle.circuit.proofs.Last.{writes_next}
 use Rattle.circuit.proofs.circuit.Circuit.put.Goals as goal
 

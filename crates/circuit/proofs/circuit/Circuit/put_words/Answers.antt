@@ -1,4 +1,4 @@
-use Rattle.std.proofs.Common.{◌≡◌, List, map, refl, ap, ◌∙◌}
+use Rattle.std.proofs.Common.{map, refl, ap, ◌∙◌}
 use Rattle.words.specs.Answers.{Answer}
 use Rattle.words.specs.Meaning.{middle}
 use Rattle.circuit.specs.declared.sent.Sent.{Sent}

@@ -1,4 +1,4 @@
-use Rattle.std.proofs.Common.{◌≡◌, List, Some, refl, ap, ◌∙◌}
+use Rattle.std.proofs.Common.{Some, refl, ap, ◌∙◌}
 use Rattle.words.specs.Answers.{Answer}
 use Rattle.circuit.specs.Faults.{answer}
 use Rattle.circuit.specs.Taking.{Outcome, sink_of, outcome, taking}

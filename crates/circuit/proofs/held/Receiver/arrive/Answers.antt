@@ -1,10 +1,10 @@
-use Rattle.std.proofs.Common.{◌≡◌, ℕ, ◌+◌, ◌<◌, cond, List, length, refl, ap, ◌∙◌, arith}
+use Rattle.std.proofs.Common.{◌≡◌, ◌+◌, ◌<◌, List, length, refl, ap, ◌∙◌, arith}
 use Rattle.std.proofs.lemmas.Bool.{cond-true, eq-eqb}
-use Rattle.words.specs.Answers.{Answer, gives}
+use Rattle.words.specs.Answers.{gives}
 use Rattle.reception.specs.Given.{Told}
 use Rattle.reception.specs.Recording.{Recorded}
 use Rattle.reception.specs.Records.{arrive_by, oldest_given}
-use Rattle.circuit.specs.Taking.{Sink, Took, Outcome, given, sink_of}
+use Rattle.circuit.specs.Taking.{Took, given, sink_of}
 use Rattle.circuit.proofs.Answering.{early_is, given_is}
 use Rattle.circuit.proofs.held.Receiver.arrive.Goals as goal
 

@@ -1,5 +1,4 @@
-use Rattle.std.proofs.Common.{◌≡◌, List, length, None, refl, ap, ◌∙◌}
-use Rattle.words.specs.Answers.{Answer, gives}
+use Rattle.std.proofs.Common.{◌≡◌, length, None, ap, ◌∙◌}
 use Rattle.circuit.specs.Taking.{Took, sink_of, measuring, arriving, losing}
 use Rattle.circuit.proofs.Answering.{measured, let_through}
 use Rattle.circuit.proofs.held.Receiver.lose.Goals as goal

@@ -1,6 +1,4 @@
-use Rattle.std.proofs.Common.{◌≡◌, List, length, Some, refl, ap, ◌∙◌}
-use Rattle.words.specs.Answers.{Answer, gives}
-use Rattle.frames.specs.Content.{Listed}
+use Rattle.std.proofs.Common.{◌≡◌, length, Some, ap, ◌∙◌}
 use Rattle.frames.specs.Answers.{reading}
 use Rattle.circuit.specs.Taking.{Took, sink_of, measuring, arriving, by_reading, taking}
 use Rattle.circuit.proofs.Answering.{measured, let_through}

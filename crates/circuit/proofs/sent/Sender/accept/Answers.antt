@@ -1,10 +1,10 @@
-use Rattle.std.proofs.Common.{◌≡◌, ℕ, cond, List, length, ℤ, Some, None, Option, sym, ap, ◌∙◌}
+use Rattle.std.proofs.Common.{◌≡◌, length, Some, Option, sym, ap, ◌∙◌}
 use Rattle.std.proofs.lemmas.Bool.{cond-true, eq-eqb}
 use Rattle.frames.specs.Frame.{Pair, frame_of}
 use Rattle.frames.specs.Content.{listed, coded}
 use Rattle.pairs.specs.declared.pair.Pair.{Pair as Samples}
 use Rattle.pairs.specs.Sending.{sent_pair}
-use Rattle.circuit.specs.Putting.{Put, Source, accepting, samples_of, source_of}
+use Rattle.circuit.specs.Putting.{Put, accepting, samples_of, source_of}
 use Rattle.circuit.proofs.Weaving.{frame_from_lists}
 use Rattle.circuit.proofs.sent.Sender.accept.Goals as goal
 

@@ -1,4 +1,4 @@
-use Rattle.std.proofs.Common.{◌≡◌, List, length, ℤ, sym, ap, ◌∙◌}
+use Rattle.std.proofs.Common.{◌≡◌, length, ap, ◌∙◌}
 use Rattle.circuit.specs.Putting.{Put, source_of, measuring, valued, putting}
 use Rattle.circuit.proofs.Measured.{measured, let_through}
 use Rattle.circuit.proofs.sent.Sender.put.Goals as goal

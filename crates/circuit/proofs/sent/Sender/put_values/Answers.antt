@@ -1,4 +1,4 @@
-use Rattle.std.proofs.Common.{◌≡◌, ℕ, ◌^◌, ◌<◌, length, ℤ, pos, sym, ◌∙◌, arith, rules}
+use Rattle.std.proofs.Common.{◌≡◌, ◌^◌, ◌<◌, length, pos, sym, ◌∙◌, arith, rules}
 use lib.Signed.{mag}
 use Rattle.pairs.proofs.Placed.{everywhere}
 use Rattle.circuit.proofs.Outside.{none_outside}

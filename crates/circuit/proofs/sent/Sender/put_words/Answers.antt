@@ -1,7 +1,7 @@
-use Rattle.std.proofs.Common.{◌≡◌, ℕ, cond, List, map, length, ℤ, sym, ap, ◌∙◌}
+use Rattle.std.proofs.Common.{◌≡◌, map, length, sym, ap, ◌∙◌}
 use Rattle.std.proofs.lemmas.Bool.{cond-true, eq-eqb}
-use Rattle.words.specs.Answers.{Answer, gives}
-use Rattle.words.specs.Lists.{first_refused, reading_all}
+use Rattle.words.specs.Answers.{gives}
+use Rattle.words.specs.Lists.{first_refused}
 use Rattle.words.specs.Meaning.{middle}
 use Rattle.circuit.specs.Putting.{Put, source_of, measuring, unless_refused, valued, putting_words}
 use Rattle.circuit.proofs.Measured.{measured, let_through}

@@ -1,4 +1,4 @@
-use Rattle.std.proofs.Common.{◌≡◌, false, set, sym, ap, ◌∙◌}
+use Rattle.std.proofs.Common.{false, set, sym, ap, ◌∙◌}
 use Rattle.decoder.specs.Findings.{finding}
 use Rattle.decoder.specs.Marks.{marks_of}
 use Rattle.decoder.proofs.Clearing.{last_cleared}

@@ -1,4 +1,4 @@
-use Rattle.std.proofs.Common.{◌≡◌, ℕ, ◌^◌, ◌<◌, List, length, ℤ, pos, sym, subst, arith, rules}
+use Rattle.std.proofs.Common.{◌≡◌, ◌^◌, ◌<◌, length, ℤ, pos, sym, subst, arith, rules}
 use lib.Signed.{mag}
 use Rattle.decoder.specs.Closeness.{StaysNear}
 use Rattle.decoder.specs.Received.{received}

@@ -1,4 +1,4 @@
-use Rattle.std.proofs.Common.{◌≡◌, ℕ, ◌+◌, ◌-◌, ◌*◌, ◌^◌, ◌<◌, length, get_or, set, ℤ, pos, sym, ap, ◌∙◌, subst, arith, length-set, rules}
+use Rattle.std.proofs.Common.{◌≡◌, ℕ, ◌+◌, ◌-◌, ◌*◌, ◌^◌, ◌<◌, length, get_or, set, pos, sym, ap, ◌∙◌, subst, arith, length-set, rules}
 use lib.Signed.{mag}
 use Rattle.decoder.specs.Findings.{pair, finding}
 use Rattle.decoder.specs.Levels.{code_of, level}

@@ -1,9 +1,9 @@
-use Rattle.std.proofs.Common.{◌≡◌, ℕ, false, eqb, List, length, sym, refl, ap, ◌∙◌, subst, arith}
+use Rattle.std.proofs.Common.{◌≡◌, ℕ, false, eqb, List, length, sym, ap, ◌∙◌, subst, arith}
 use Rattle.std.proofs.lemmas.Bool.{cond-true, cond-false, eq-eqb}
 use Rattle.words.specs.Answers.{gives}
-use Rattle.frames.specs.Frame.{bit_at, heard_by, heard, octets_of}
+use Rattle.frames.specs.Frame.{bit_at, heard_by, heard}
 use Rattle.frames.specs.Content.{pair_in, listed}
-use Rattle.frames.specs.Answers.{all_ones, reading, Alike}
+use Rattle.frames.specs.Answers.{all_ones, Alike}
 use Rattle.frames.specs.Sheet.{bit_of}
 use Rattle.frames.proofs.Same.{listed_same, same_listed, octets_same, heard_same, written_again}
 use Rattle.frames.proofs.content.Frame.read.Goals as goal

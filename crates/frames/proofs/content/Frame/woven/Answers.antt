@@ -1,6 +1,5 @@
 use Rattle.std.proofs.Common.{refl}
-use Rattle.frames.specs.Frame.{woven, frame_of}
-use Rattle.frames.specs.Content.{coded, pair_by}
+use Rattle.frames.specs.Frame.{frame_of}
 use Rattle.frames.proofs.Same.{same_listed, octets_same}
 use Rattle.frames.proofs.content.Frame.woven.Goals as goal
 

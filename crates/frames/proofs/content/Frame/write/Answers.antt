@@ -1,4 +1,4 @@
-use Rattle.std.proofs.Common.{◌≡◌, ℕ, eqb, length, sym, refl, ap, ◌∙◌, arith}
+use Rattle.std.proofs.Common.{eqb, length, sym, ◌∙◌, arith}
 use Rattle.std.proofs.lemmas.Bool.{cond-true, cond-false, eq-eqb, ne_eqb}
 use Rattle.frames.specs.Places.{lies_at}
 use Rattle.frames.specs.Frame.{carried, octets_of}

@@ -1,4 +1,4 @@
-use Rattle.std.proofs.Common.{◌≡◌, ℕ, ◌+◌, ◌*◌, ◌^◌, ◌<◌, ◌≤◌, sym, subst, arith}
+use Rattle.std.proofs.Common.{◌≡◌, ℕ, ◌+◌, ◌*◌, ◌^◌, ◌<◌, ◌≤◌, sym, subst}
 use Rattle.guards.specs.Bits.{number}
 use Rattle.frames.specs.Sheet.{bit_of}
 use Rattle.frames.proofs.Cells.{number_more, cell_of_octet}

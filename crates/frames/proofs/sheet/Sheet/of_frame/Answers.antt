@@ -1,4 +1,4 @@
-use Rattle.std.proofs.Common.{◌≡◌, ℕ, ◌%◌, sym, ◌∙◌, ⊎_elim, arith}
+use Rattle.std.proofs.Common.{◌%◌, sym, ◌∙◌, ⊎_elim}
 use Rattle.std.proofs.lemmas.Bool.{cases_lt}
 use Rattle.frames.specs.Places.{lies_at}
 use Rattle.frames.specs.Frame.{carried}

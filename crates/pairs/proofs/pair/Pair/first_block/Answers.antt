@@ -1,4 +1,4 @@
-use Rattle.std.proofs.Common.{◌≡◌, ℕ, ◌+◌, ◌^◌, ◌<◌, length, get_or, ℤ, pos, sym, subst, arith}
+use Rattle.std.proofs.Common.{◌≡◌, ◌+◌, ◌^◌, ◌<◌, get_or, ℤ, pos, sym, subst, arith}
 use lib.Signed.{mag}
 use Rattle.std.proofs.lemmas.List.FromFn.{fill_by_all}
 use Rattle.pairs.specs.Sending.{block_from}

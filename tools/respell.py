@@ -17,8 +17,8 @@ DECLARED = re.compile(
     r"(?m)^\s*(?:(?:pub|abbrev|unfoldable|record|data|let)\s+)*([^\s(){}.;,:]+)(?: \([^\n]*\))*(?: \{[^\n]*\})* : (\S*)"
 )
 IMPORTED = re.compile(r"\buse (Rattle\.(?:std|core)|mathlib|lib|native|Prim)[^\s{;]*\{([^}]*)\}")
-# Names of arguments and of local facts, which are bound without a type of their own.
-LOCAL = "all-x all-y at-share fits-block fits-circuit fits-pair is-next is-sample made-is word-is is_Block".split()
+# Names that share a line of declaration, and names of arguments and of local facts, which are bound without a type of their own.
+LOCAL = "in-A in-B in-C in-D all-x all-y at-share fits-block fits-circuit fits-pair is-next is-sample made-is word-is is_Block".split()
 # A name that would fall together with one of the library.
 SPECIAL = {"bit-xor": "bit_of_xor"}
 # The heads behind which Rattle's own labels stand.

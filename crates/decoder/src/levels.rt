@@ -1,6 +1,6 @@
 // The levels of a received block that is heard: of its odd samples, with a hurt one concealed, of the follower beside them, and
 // what the even samples' own words add. Each is worked out once for all samples, in plain loops.
-ghost use Rattle.std.specs.Prelude.{◌≡◌, ℕ, ◌+◌, ◌*◌, ◌/◌, ◌%◌, ◌^◌, ◌<◌, ◌≤◌, length, get_or, pos, Some, slice_index, slice_index_or};
+ghost use Rattle.std.specs.Prelude.{◌≡◌, ℕ, ◌+◌, ◌*◌, ◌/◌, ◌%◌, ◌^◌, ◌<◌, ◌≤◌, length, slice_index_or, pos, Some, slice_index};
 ghost use Rattle.std.specs.Int.Signed.{mag};
 ghost use Rattle.decoder.specs.Levels.{code_of, level};
 ghost use Rattle.decoder.specs.Samples.{stand_in, odd_level, side, share};
@@ -22,7 +22,7 @@ const LAST_ODD: usize = BLOCK - 1;
 // The level that stands in for that of odd sample n.
 fn stand_in(levels: &[i32; SIDES], n: usize) -> i32
     requires { (1 ≤ n) × ((n ≤ 31) × (((k : ℕ) → mag (slice_index_or levels.now k (pos 0)) < 2 ^ 17))) }
-    ensures value { n % 2 ≡ 1 → result ≡ stand_in (λ m. get_or levels.now (m / 2) (pos 0)) n }
+    ensures value { n % 2 ≡ 1 → result ≡ stand_in (λ m. slice_index_or levels.now (m / 2) (pos 0)) n }
     ensures small { mag result < 2 ^ 17 }
 {
     match n {

@@ -1,6 +1,6 @@
 -- What lies at each bit of a frame, and where each bit lies.
 -- Groups count from 1 to 8, bits of a group from 1 to 80, blocks from 1 to 2, samples of a block from 1 to 32.
-use Rattle.std.specs.Prelude.{◌≡◌, ℕ, ◌+◌, ◌-◌, ◌*◌, ◌/◌, ◌%◌, ◌≤◌, cond, List, [], ◌∷◌, get_or, ◌==◌, nat_lt, slice_index, slice_index_or}
+use Rattle.std.specs.Prelude.{◌≡◌, ℕ, ◌+◌, ◌-◌, ◌*◌, ◌/◌, ◌%◌, ◌≤◌, cond, List, [], ◌∷◌, slice_index_or, ◌==◌, nat_lt, slice_index}
 use Rattle.guards.specs.Parities.{bits_of}
 
 pub record IsBlock (block : ℕ) : Type 0 where
@@ -31,28 +31,28 @@ travels block sample bit = sample_bit (delay block sample) block sample bit
 
 -- The four samples of which half a group takes bits.
 pub data Letter : Type 0 where
-  in-A in-B in-C in-D : Letter
+  in_a in_b in_c in_d : Letter
 
 -- Bit b of a letter's sample in group l; in the second half (1) the sample's number is 2 higher than in the first (0).
 abbrev pub bit_from : Letter → ℕ → ℕ → ℕ → Holds
-bit_from in-A l half b = sample_bit 1 1 (4 * l + 2 * half - 3) b
-bit_from in-B l half b = sample_bit 1 2 (4 * l + 2 * half - 2) b
-bit_from in-C l half b = sample_bit 2 1 (4 * l + 2 * half - 2) b
-bit_from in-D l half b = sample_bit 2 2 (4 * l + 2 * half - 3) b
+bit_from in_a l half b = sample_bit 1 1 (4 * l + 2 * half - 3) b
+bit_from in_b l half b = sample_bit 1 2 (4 * l + 2 * half - 2) b
+bit_from in_c l half b = sample_bit 2 1 (4 * l + 2 * half - 2) b
+bit_from in_d l half b = sample_bit 2 2 (4 * l + 2 * half - 3) b
 
 abbrev pub letters : List Letter
-letters = in-A ∷ in-B ∷ in-C ∷ in-D ∷ []
+letters = in_a ∷ in_b ∷ in_c ∷ in_d ∷ []
 
 -- The last six of a half's 38 places.
 abbrev pub last_six : List (Letter × ℕ)
-last_six = (in-A, 5) ∷ (in-A, 10) ∷ (in-B, 5) ∷ (in-C, 5) ∷ (in-D, 5) ∷ (in-D, 10) ∷ []
+last_six = (in_a, 5) ∷ (in_a, 10) ∷ (in_b, 5) ∷ (in_c, 5) ∷ (in_d, 5) ∷ (in_d, 10) ∷ []
 
 -- Place c, from 0, of the 38 in half of group l: for k = 1 to 4 bits k and k + 5 of A, B, C and D in turn, then the six.
 abbrev pub half_place : ℕ → ℕ → ℕ → Holds
 half_place l half c =
     cond (nat_lt c 32)
-    (bit_from (slice_index_or letters (c % 8 / 2) in-A) l half (c / 8 + 1 + 5 * (c % 2)))
-    (bit_from (get_or last_six (c - 32) (in-A, 0)).0 l half (get_or last_six (c - 32) (in-A, 0)).1)
+    (bit_from (slice_index_or letters (c % 8 / 2) in_a) l half (c / 8 + 1 + 5 * (c % 2)))
+    (bit_from (slice_index_or last_six (c - 32) (in_a, 0)).0 l half (slice_index_or last_six (c - 32) (in_a, 0)).1)
 
 -- Bits 40 and 79 of groups 1 to 8.
 abbrev pub at_40 : List Holds
@@ -97,7 +97,7 @@ service_places = (2, 40) ∷ (6, 40) ∷ []
 unfoldable pub place : Holds → ℕ × ℕ
 place (sample_bit earlier block n b) = ((n - 1) / 4 + 1, 40 * ((n - 1) % 4 / 2) + column (2 * (earlier - 1) + (block - 1)) b + 1)
 place (range_bit k) = slice_index_or range_places (k - 1) (0, 0)
-place (check_bit block k) = (4 * (block - 1) + (get_or check_places (k - 1) (0, 0)).0, (get_or check_places (k - 1) (0, 0)).1)
+place (check_bit block k) = (4 * (block - 1) + (slice_index_or check_places (k - 1) (0, 0)).0, (slice_index_or check_places (k - 1) (0, 0)).1)
 place (service_bit k) = slice_index_or service_places (k - 1) (0, 0)
 place (spare_bit l) = (l, 80)
 

@@ -1,5 +1,5 @@
 -- A pair as it is sent: the codes of its two blocks, with the range word and the checks that guard them.
-use Rattle.std.specs.Prelude.{◌≡◌, ℕ, ◌+◌, ◌^◌, ◌<◌, cond, List, ◌++◌, map, length, get_or, ℤ, pos, ◌==◌, slice_index_or}
+use Rattle.std.specs.Prelude.{◌≡◌, ℕ, ◌+◌, ◌^◌, ◌<◌, cond, List, ◌++◌, map, length, slice_index_or, ℤ, pos, ◌==◌}
 use Rattle.std.specs.Int.Signed.{mag}
 use Rattle.std.specs.List.{range_with_len}
 use Rattle.guards.specs.Words.{by_sample}
@@ -17,7 +17,7 @@ pub record IsPair (values : List ℤ) : Type 0 where
 
 -- 33 samples of a row, from a place on.
 unfoldable pub block_from : List ℤ → ℕ → List ℤ
-block_from samples place = map (λ k. get_or samples (place + k) (pos 0)) (range_with_len 0 33)
+block_from samples place = map (λ k. slice_index_or samples (place + k) (pos 0)) (range_with_len 0 33)
 
 -- The first block of a pair is followed by its second one, the second block by the next pair.
 abbrev pub first_block : List ℤ → List ℤ

@@ -1,5 +1,5 @@
 -- The last four pairs on their way in, the newest first: what an arrival makes of them, and what is given of the oldest.
-use Rattle.std.specs.Prelude.{ℕ, ◌+◌, ◌%◌, Bool, false, List, [], ◌∷◌, map, get_or, slice_index_or}
+use Rattle.std.specs.Prelude.{ℕ, ◌+◌, ◌%◌, Bool, false, List, [], ◌∷◌, map, slice_index_or}
 use Rattle.words.specs.Meaning.{Meaning}
 use Rattle.frames.specs.Frame.{Pair, heard, blank}
 use Rattle.decoder.specs.Received.{received}
@@ -48,4 +48,4 @@ arrive_by a rs = arrive_with (is_lost a) (heard (octets_in a)) rs
 -- The oldest pair as given, before the next newer one.
 abbrev pub oldest_given : Meaning → List Recorded → PairGiven
 oldest_given outlet rs =
-    giving outlet (get_or rs 3 blank_record).first (get_or rs 3 blank_record).second (get_or rs 2 blank_record).first
+    giving outlet (slice_index_or rs 3 blank_record).first (slice_index_or rs 3 blank_record).second (slice_index_or rs 2 blank_record).first

@@ -1,5 +1,5 @@
 // A block as it is coded: its 32 samples and its follower, each within -8192 to 8191.
-ghost use Rattle.std.specs.Prelude.{◌≡◌, ℕ, ◌^◌, ◌<◌, true, length, pos, Decides, MatchOption, slice_index_or};
+ghost use Rattle.std.specs.Prelude.{◌≡◌, ℕ, ◌^◌, ◌<◌, length, pos, Decides, MatchOption, slice_index_or};
 ghost use Rattle.std.specs.Int.Signed.{mag};
 
 /// Samples of a block.

@@ -1,6 +1,6 @@
 // The encoder of a block: both ranges, then the words of the odd samples and of the differences under the laws of these ranges,
 // by the one companding of lists. The ranges hold what is companded, so nothing is ever refused here.
-ghost use Rattle.std.specs.Prelude.{◌≡◌, ℕ, ◌+◌, ◌^◌, ◌<◌, ◌≤◌, List, map, length, ℤ, pos, slice_index, slice_index_or};
+ghost use Rattle.std.specs.Prelude.{◌≡◌, ℕ, ◌^◌, ◌<◌, map, pos, slice_index, slice_index_or};
 ghost use Rattle.words.specs.Meaning.{Inside};
 ghost use Rattle.words.specs.Signed.{basic, additional};
 ghost use Rattle.blocks.specs.Ranges.{Ranged, differences};

@@ -1,6 +1,6 @@
 // The range search: both ranges of a block, each the smallest that holds. That there are such ranges follows from the bounds on
 // samples: range 4 holds every sample, and additional range 2 every difference of samples that the basic range holds.
-ghost use Rattle.std.specs.Prelude.{◌≡◌, ℕ, ◌+◌, ◌-◌, ◌*◌, ◌^◌, ◌<◌, ◌≤◌, pos};
+ghost use Rattle.std.specs.Prelude.{◌≡◌, ℕ, ◌*◌, ◌^◌, ◌<◌, ◌≤◌};
 ghost use Rattle.std.specs.Int.Signed.{mag};
 ghost use Rattle.blocks.specs.Ranges.{Ranged, difference, differences};
 ghost use Rattle.blocks.specs.Peaks.{Peak};

@@ -1,6 +1,6 @@
 // Taking frames, and losses of frames: measure the buffer, read the octets, and only then change anything.
 // Promise: answer, state and buffer are the defined ones, for whatever octets come.
-ghost use Rattle.std.specs.Prelude.{◌≡◌, ℕ, length};
+ghost use Rattle.std.specs.Prelude.{◌≡◌, length};
 ghost use Rattle.reception.specs.Arrivals.{Arrival};
 ghost use Rattle.reception.specs.Carried.{carried, carried_by};
 ghost use Rattle.circuit.specs.Faults.{answer};

@@ -1,6 +1,6 @@
 // The steps from a word to a sample: its code, its level in quarters of a sample unit, a mean of levels, the sample. Each is a
 // shift or a sum; nothing here divides.
-ghost use Rattle.std.specs.Prelude.{◌≡◌, ◌+◌, ◌-◌, ◌*◌, ◌^◌, ◌<◌, ◌≤◌, ◌+ℤ◌};
+ghost use Rattle.std.specs.Prelude.{◌≡◌, ◌+◌, ◌*◌, ◌^◌, ◌<◌, ◌≤◌, ◌+ℤ◌};
 ghost use Rattle.std.specs.Int.Signed.{mag};
 ghost use Rattle.decoder.specs.Levels.{code_of as code_in, level as level_of, mean as mean_of, sample as sample_of};
 

@@ -1,6 +1,6 @@
 // Frames on the line: written into 80 octets, and read from whatever 80 octets arrive. What is written reads back as the
 // same frame, and what is read, written again, agrees with the octets in every bit that is not ignored.
-ghost use Rattle.std.specs.Prelude.{◌≡◌, length, IfOk};
+ghost use Rattle.std.specs.Prelude.{◌≡◌, IfOk};
 ghost use Rattle.words.specs.Answers.{gives};
 ghost use Rattle.frames.specs.Frame.{octets_of};
 ghost use Rattle.frames.specs.Content.{pair_in, listed};

@@ -1,6 +1,6 @@
 // The sheet on which a frame first stands: a cell, 0 or 1, for each bit but the last of each group. It is then packed into
 // octets. The bits of a word are laid out and collected by one text for words of any law, by the law's word length.
-ghost use Rattle.std.specs.Prelude.{◌≡◌, ℕ, ◌+◌, ◌-◌, ◌*◌, ◌/◌, ◌%◌, ◌^◌, ◌<◌, ◌≤◌, length, slice_index};
+ghost use Rattle.std.specs.Prelude.{◌≡◌, ℕ, ◌+◌, ◌*◌, ◌%◌, ◌^◌, ◌<◌, ◌≤◌, length, slice_index};
 ghost use Rattle.guards.specs.Bits.{number};
 ghost use Rattle.frames.specs.Places.{lies_at};
 ghost use Rattle.frames.specs.Frame.{carried, packed, bit_at, heard_by};

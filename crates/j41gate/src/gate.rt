@@ -1,6 +1,6 @@
 // The gate on pairs of numbers: samples to words of variant B, and words to samples.
 // A refused pair leaves as silence, so that what follows it keeps its time.
-ghost use Rattle.std.specs.Prelude.{◌≡◌, ℕ, ◌<◌, ◌≤◌, true, map, length, replicate, pos, is_ok, if◌then◌else◌, FitsSigned, slice_index_or};
+ghost use Rattle.std.specs.Prelude.{◌≡◌, ℕ, ◌<◌, ◌≤◌, true, map, replicate, pos, is_ok, if◌then◌else◌, FitsSigned, slice_index_or};
 ghost use Rattle.std.specs.Int.{w16};
 ghost use Rattle.std.specs.List.{AllByRecursion};
 ghost use Rattle.words.specs.Answers.{answer};

@@ -1,10 +1,10 @@
 -- The cell rule of variant B: by the segments of magnitudes, then by the eleven bits of each sign, then by the word.
 use Rattle.std.specs.Prelude.{◌≡◌, ℕ, ◌+◌, ◌-◌, ◌*◌, ◌/◌, ◌%◌, ◌^◌, ◌<◌, ◌≤◌, true, false, ℤ, pos, negsuc, ◌+ℤ◌, ◌-ℤ◌, ◌≤ℤ◌, ◌<ℤ◌, ◌≢◌, nat_lt}
-use Rattle.std.proofs.Common.{sym, ap, subst, ◌∙◌, ⊎_elim, arith}
+use Rattle.std.proofs.Common.{sym, ap, subst, ◌∙◌, ⊎_elim, arith, rules}
 use Rattle.std.proofs.lemmas.Int.{ints}
 use Rattle.std.proofs.lemmas.Bool.Decides.{nat_tests}
 use Rattle.std.proofs.lemmas.Bool.{lt-ltb, le-ltb, cond-true, cond-false, cases_lt, eq-eqb}
-use Rattle.words.specs.Meaning.{Inside, InCell, CellRule}
+use Rattle.words.specs.Meaning.{Inside, InCell, CellRule, Wide}
 use Rattle.words.specs.VariantB.{variant_b, code_of, first_of, step_of, parity, front_of, gate_word, gate_low, gate_width, gate_refusal}
 use Rattle.words.specs.Answers.{gives, reading}
 use Rattle.words.specs.Segments.{code_below, code_in, code_back}
@@ -168,6 +168,9 @@ gate_rule = record {
   held = held;
   named = λ w n. (named w n, named_top w n);
 }
+
+pub gate_wide : Wide variant_b
+gate_wide = search rules
 
 pub read_neg : (w p f m : ℕ) (z : ℤ) → w < 4096 → w % 2 ≡ p → p ≡ parity (w / 2) → 128 ≤ w / 2 % 1024 → 1024 ≤ w / 2
     → f ≡ first_of (w / 2 - 1152) → m ≡ step_of (w / 2 - 1152) → 0 < m → z ≡ (pos 0 -ℤ pos ((f + m) - (m - 1) / 2)) → gives z ≡ reading variant_b w

@@ -3,6 +3,7 @@ pub mod Faults
 pub mod Answers
 pub mod Lists
 pub mod Linear
+pub mod LinearRule
 pub mod Signed
 pub mod VariantB
 pub mod SignRule

@@ -1,16 +1,16 @@
 -- The cell rule of every law of a sign and a magnitude, over the number of codes and the width, and what making and
 -- reading answer by the magnitude.
 use Rattle.std.specs.Prelude.{◌≡◌, ℕ, ◌+◌, ◌-◌, ◌*◌, ◌/◌, ◌^◌, ◌<◌, ◌≤◌, cond, ℤ, pos, negsuc, ◌+ℤ◌, ◌-ℤ◌, ◌≤ℤ◌, ◌<ℤ◌, nat_lt}
-use Rattle.std.proofs.Common.{sym, ap, subst, ◌∙◌, ⊎_elim, arith, add-mul}
+use Rattle.std.proofs.Common.{refl, sym, ap, subst, ◌∙◌, ⊎_elim, arith, add-mul}
 use Rattle.std.specs.Int.Signed.{mag}
 use Rattle.words.specs.declared.faults.Layer.TheVariants.{Word}
 use Rattle.words.specs.Answers.{making, reading, gives, refuses}
 use Rattle.std.proofs.lemmas.Int.{ints}
 use Rattle.std.proofs.lemmas.Bool.Decides.{nat_tests}
 use Rattle.std.proofs.lemmas.Bool.{lt-ltb, le-ltb, cond-true, cond-false, cases_lt}
-use Rattle.std.proofs.lemmas.Nat.{div_below, mod_below, div-add-mod', div-mul-add, mul-le}
+use Rattle.std.proofs.lemmas.Nat.{div_below, mod_below, div-add-mod', div-mul-add, mul-le, pow_pos}
 use Rattle.words.specs.Meaning.{Inside, InCell, CellRule}
-use Rattle.words.specs.Signed.{signed, signed_low, signed_word}
+use Rattle.words.specs.Signed.{signed, signed_low, signed_word, basic, additional}
 
 module _ (bits half width : ℕ) (hp : 0 < half) (wp : 0 < width) (few : bits ≤ 16) (fit : 2 * half ≡ 2 ^ bits) where
   low_pos : (w : ℕ) → w < half → signed_low half width w ≡ pos (w * width)
@@ -126,6 +126,13 @@ module _ (bits half width : ℕ) (hp : 0 < half) (wp : 0 < width) (few : bits �
     held = held;
     named = λ w n. (named w n, named_top w n);
   }
+
+-- the two laws that J.43 uses
+pub basic_rule : (r : ℕ) → CellRule (basic r)
+basic_rule r = signed_rule 10 512 (2 ^ r) (omega arith) (pow_pos r) (omega arith) refl
+
+pub additional_rule : (r a : ℕ) → CellRule (additional r a)
+additional_rule r a = let e = r + a + 1 in signed_rule 9 256 (2 ^ e) (omega arith) (pow_pos e) (omega arith) refl
 
 -- what making and reading answer; the number of bits counts for nothing here
 module _ (bits half width : ℕ) where

@@ -1,7 +1,6 @@
 // The linear law: the sample itself, in 14 bits of two's complement.
-ghost use Rattle.std.specs.Prelude.{◌≡◌};
 ghost use Rattle.words.specs.Linear.{linear};
-ghost use Rattle.std.proofs.Common.{rules};
+ghost use Rattle.words.specs.LinearRule.{linear_rule, linear_wide};
 
 use crate::faults::WordFault;
 use crate::law::{Outlet, WordLaw};
@@ -22,7 +21,7 @@ impl WordLaw for Linear {
 
     ghost meaning = { λ _. linear };
 
-    ghost cells = { Prim.search rules };
+    ghost cells = { λ _. linear_rule };
 
     fn word_length(&self) -> u32 {
         Self::BITS
@@ -52,5 +51,5 @@ impl WordLaw for Linear {
 }
 
 impl Outlet for Linear {
-    ghost wide = { Prim.search rules };
+    ghost wide = { λ _. linear_wide };
 }

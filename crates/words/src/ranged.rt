@@ -1,10 +1,8 @@
 // The basic law of odd samples and the additional law of differences, by their ranges. The bounds on the ranges are part
 // of the types, so neither law has anything to ask.
-ghost use Rattle.std.specs.Prelude.{◌≡◌, ℕ, ◌+◌, ◌^◌, ◌<◌, ◌≤◌, MatchOption, refl};
+ghost use Rattle.std.specs.Prelude.{◌≡◌, ◌+◌, ◌<◌, ◌≤◌, MatchOption};
 ghost use Rattle.words.specs.Signed.{basic, additional};
-ghost use Rattle.std.proofs.Common.{arith};
-ghost use Rattle.std.proofs.lemmas.Nat.{pow_pos};
-ghost use Rattle.words.specs.SignRule.{signed_rule};
+ghost use Rattle.words.specs.SignRule.{basic_rule, additional_rule};
 
 use crate::faults::WordFault;
 use crate::law::WordLaw;
@@ -40,7 +38,7 @@ impl WordLaw for Basic {
 
     ghost meaning = { λ s. basic s.range };
 
-    ghost cells = { λ s. signed_rule 10 512 (2 ^ s.range) (omega arith) (pow_pos s.range) (omega arith) refl };
+    ghost cells = { λ s. basic_rule s.range };
 
     fn word_length(&self) -> u32 {
         Self::BITS
@@ -91,9 +89,7 @@ impl WordLaw for Additional {
 
     ghost meaning = { λ s. additional s.basic_range s.range };
 
-    ghost cells = { λ s.
-        let e = s.basic_range + s.range + 1 in
-        signed_rule 9 256 (2 ^ e) (omega arith) (pow_pos e) (omega arith) refl };
+    ghost cells = { λ s. additional_rule s.basic_range s.range };
 
     fn word_length(&self) -> u32 {
         Self::BITS

@@ -1,6 +1,6 @@
 // Words of a sign and a magnitude: `half` codes of each sign, each 2^exponent values wide. Written and proved once, over
 // both numbers, for the basic and the additional law.
-ghost use Rattle.std.specs.Prelude.{◌≡◌, ◌+◌, ◌-◌, ◌*◌, ◌^◌, ◌<◌, ◌≤◌};
+ghost use Rattle.std.specs.Prelude.{◌≡◌, ◌^◌, ◌<◌, ◌≤◌};
 ghost use Rattle.words.specs.Answers.{answer, making, reading};
 ghost use Rattle.words.specs.Signed.{signed};
 

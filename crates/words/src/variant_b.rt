@@ -2,8 +2,7 @@
 // and a parity bit over the first seven of these eleven.
 ghost use Rattle.std.specs.Prelude.{◌≡◌, ◌+◌, ◌<◌, ◌≤◌};
 ghost use Rattle.words.specs.VariantB.{variant_b, code_of, first_of, step_of, parity};
-ghost use Rattle.words.specs.GateRule.{gate_rule};
-ghost use Rattle.std.proofs.Common.{rules};
+ghost use Rattle.words.specs.GateRule.{gate_rule, gate_wide};
 
 use crate::faults::WordFault;
 use crate::law::{Outlet, WordLaw};
@@ -80,7 +79,7 @@ impl WordLaw for VariantB {
 
     ghost meaning = { λ _. variant_b };
 
-    ghost cells = { λ s. gate_rule };
+    ghost cells = { λ _. gate_rule };
 
     fn word_length(&self) -> u32 {
         Self::BITS
@@ -117,5 +116,5 @@ impl WordLaw for VariantB {
 }
 
 impl Outlet for VariantB {
-    ghost wide = { Prim.search rules };
+    ghost wide = { λ _. gate_wide };
 }

@@ -45,7 +45,8 @@ fn basic_law(ranges: Ranges) -> Basic
 }
 
 fn additional_law(ranges: Ranges) -> Additional
-    ensures { (result.basic_range ≡ ranges.basic) × (result.range ≡ ranges.additional) }
+    ensures basic { result.basic_range ≡ ranges.basic }
+    ensures additional { result.range ≡ ranges.additional }
 {
     match Additional::new(ranges.basic(), ranges.additional()) {
         Some(law) => law,

@@ -10,7 +10,9 @@ use crate::coded::HALF;
 use words::magnitude;
 
 fn difference(before: i32, here: i32, after: i32) -> i32
-    requires { (mag before < 2 ^ 13) × ((mag here < 2 ^ 13) × (mag after < 2 ^ 13)) }
+    requires small_before { mag before < 2 ^ 13 }
+    requires small_here { mag here < 2 ^ 13 }
+    requires small_after { mag after < 2 ^ 13 }
     ensures { result ≡ difference before here after }
 {
     2 * here - before - after
@@ -44,7 +46,9 @@ fn peak(values: &[i32]) -> u32
 
 // The smallest range up to `top` that holds the magnitude m.
 fn range_of(m: u32, half: u32, top: u8) -> u8
-    requires { (half ≤ 2 ^ 15) × ((top ≤ 4) × (m < half * 2 ^ top)) }
+    requires few_codes { half ≤ 2 ^ 15 }
+    requires few_ranges { top ≤ 4 }
+    requires held { m < half * 2 ^ top }
     ensures top { result ≤ top }
     ensures holds { m < half * 2 ^ result }
     ensures least { (k : ℕ) → k < result → half * 2 ^ k ≤ m }

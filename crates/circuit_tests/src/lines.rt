@@ -14,7 +14,8 @@ const LOUDNESS: [i16; LINES] = [7, 60, 120, 250];
 
 /// The samples of a pair on a line.
 pub(crate) fn signal(line: usize, pair: usize) -> [i16; PAIR]
-    requires { (line < 4) × (pair < 64) }
+    requires one_of_four { line < 4 }
+    requires few_pairs { pair < 64 }
 {
     let mut samples = [0; PAIR];
     for i in 0..PAIR {
@@ -49,7 +50,8 @@ pub(crate) fn put(
     line: usize,
     pair: usize,
 ) -> Option<[u8; FRAME_OCTETS]>
-    requires { (line < 4) × (pair < 64) }
+    requires one_of_four { line < 4 }
+    requires few_pairs { pair < 64 }
 {
     let mut frame = [0; FRAME_OCTETS];
     match circuit.put(&signal(line, pair), &mut frame) {
@@ -105,7 +107,8 @@ pub(crate) fn take(
 
 /// Both for a pair.
 pub(crate) fn cross(circuit: &mut Circuit<Linear>, line: usize, pair: usize) -> Turn
-    requires { (line < 4) × (pair < 64) }
+    requires one_of_four { line < 4 }
+    requires few_pairs { pair < 64 }
 {
     let sent = put(circuit, line, pair);
     take(circuit, line, pair, sent)

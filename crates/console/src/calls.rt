@@ -21,8 +21,8 @@ fn read(law: Law, word: u16) -> Result<Reply, WordFault> {
 }
 
 // What a call gives, or its refusal.
-fn told(res: Result<Reply, WordFault>) -> Reply {
-    match res {
+fn told(outcome: Result<Reply, WordFault>) -> Reply {
+    match outcome {
         Ok(reply) => reply,
         Err(fault) => Reply::Refused(fault.refusal()),
     }

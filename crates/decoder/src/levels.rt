@@ -21,7 +21,9 @@ const LAST_ODD: usize = BLOCK - 1;
 
 // The level that stands in for that of odd sample n.
 fn stand_in(levels: &[i32; SIDES], n: usize) -> i32
-    requires { (1 ≤ n) × ((n ≤ 31) × (((k : ℕ) → mag (slice_index_or levels.now k (pos 0)) < 2 ^ 17))) }
+    requires from { 1 ≤ n }
+    requires upto { n ≤ 31 }
+    requires small_levels { (k : ℕ) → mag (slice_index_or levels.now k (pos 0)) < 2 ^ 17 }
     ensures value { n % 2 ≡ 1 → result ≡ stand_in (λ m. slice_index_or levels.now (m / 2) (pos 0)) n }
     ensures small { mag result < 2 ^ 17 }
 {
@@ -34,8 +36,11 @@ fn stand_in(levels: &[i32; SIDES], n: usize) -> i32
 
 // The levels of sixteen words, of a law with `half` codes of each sign, at the front of `levels`.
 fn word_levels(words: &[u16; HALF], half: u16, range: u8, levels: &mut [i32])
-    requires half_bound { (half ≤ 512) × ((range ≤ 6) × (((k : ℕ) → slice_index words.now k < 2 * half))) }
-    requires in_bounds { (16 ≤ length levels.old) × (((k : ℕ) → mag (slice_index_or levels.old k (pos 0)) < 2 ^ 17)) }
+    requires few_codes { half ≤ 512 }
+    requires narrow { range ≤ 6 }
+    requires short { (k : ℕ) → slice_index words.now k < 2 * half }
+    requires room { 16 ≤ length levels.old }
+    requires small_levels { (k : ℕ) → mag (slice_index_or levels.old k (pos 0)) < 2 ^ 17 }
     ensures value { (k : ℕ) → k < 16 → slice_index_or levels.new k (pos 0) ≡ level range (code_of half (slice_index words.now k)) }
     ensures small { (k : ℕ) → mag (slice_index_or levels.new k (pos 0)) < 2 ^ 17 }
 {

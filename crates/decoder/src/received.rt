@@ -34,7 +34,8 @@ fn odd_level(word: u16, ranges: Ranges) -> i16
 
 // The samples of all levels: an even sample's is its share and the mean of the two beside it.
 fn mixed(sides: &[i32; SIDES], shares: &[i32; HALF]) -> [i32; BLOCK]
-    requires { (((k : ℕ) → mag (slice_index_or sides.now k (pos 0)) < 2 ^ 17)) × (((k : ℕ) → mag (slice_index_or shares.now k (pos 0)) < 2 ^ 17)) }
+    requires small_sides { (k : ℕ) → mag (slice_index_or sides.now k (pos 0)) < 2 ^ 17 }
+    requires small_shares { (k : ℕ) → mag (slice_index_or shares.now k (pos 0)) < 2 ^ 17 }
     ensures odd { (k : ℕ) → k < 16 → slice_index_or result (2 * k) (pos 0) ≡ sample_of (slice_index_or sides.now k (pos 0)) }
     ensures even { (k : ℕ) → k < 16 → slice_index_or result (2 * k + 1) (pos 0) ≡ sample_of (slice_index_or shares.now k (pos 0) +ℤ mean_of (slice_index_or sides.now k (pos 0)) (slice_index_or sides.now (k + 1) (pos 0))) }
     ensures small { (k : ℕ) → mag (slice_index_or result k (pos 0)) < 2 ^ 13 }

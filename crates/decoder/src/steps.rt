@@ -11,7 +11,8 @@ pub(crate) const EVEN_CODES: u16 = 256;
 
 // The code that a word carries.
 fn code_of(word: u16, half: u16) -> i32
-    requires { (word < 2 * half) × (half ≤ 512) }
+    requires short { word < 2 * half }
+    requires few_codes { half ≤ 512 }
     ensures value { result ≡ code_in half word }
     ensures small { mag result < half }
 {
@@ -24,7 +25,8 @@ fn code_of(word: u16, half: u16) -> i32
 
 // The level of a code.
 fn level(code: i32, range: u8) -> i32
-    requires { (mag code < 512) × (range ≤ 6) }
+    requires small_code { mag code < 512 }
+    requires narrow { range ≤ 6 }
     ensures value { result ≡ level_of range code }
     ensures small { mag result < 2 ^ 17 }
     ensures basic { range ≤ 4 → mag result < 2 ^ 15 }
@@ -34,7 +36,9 @@ fn level(code: i32, range: u8) -> i32
 
 // The level of a word, of a law with `half` codes of each sign.
 pub(crate) fn word_level(word: u16, half: u16, range: u8) -> i32
-    requires { (word < 2 * half) × ((half ≤ 512) × (range ≤ 6)) }
+    requires short { word < 2 * half }
+    requires few_codes { half ≤ 512 }
+    requires narrow { range ≤ 6 }
     ensures value { result ≡ level_of range (code_in half word) }
     ensures small { mag result < 2 ^ 17 }
     ensures basic { range ≤ 4 → mag result < 2 ^ 15 }
@@ -44,7 +48,8 @@ pub(crate) fn word_level(word: u16, half: u16, range: u8) -> i32
 
 // The mean of two levels.
 pub(crate) fn mean(before: i32, after: i32) -> i32
-    requires { (mag before < 2 ^ 17) × (mag after < 2 ^ 17) }
+    requires small_before { mag before < 2 ^ 17 }
+    requires small_after { mag after < 2 ^ 17 }
     ensures value { result ≡ mean_of before after }
     ensures small { mag result < 2 ^ 17 }
 {
@@ -67,7 +72,9 @@ pub(crate) fn sample(level: i32) -> i32
 
 // The sample of an even sample's own share and the levels on both sides of it.
 pub(crate) fn even_sample(share: i32, before: i32, after: i32) -> i32
-    requires { (mag share < 2 ^ 17) × ((mag before < 2 ^ 17) × (mag after < 2 ^ 17)) }
+    requires small_share { mag share < 2 ^ 17 }
+    requires small_before { mag before < 2 ^ 17 }
+    requires small_after { mag after < 2 ^ 17 }
     ensures value { result ≡ sample_of (share +ℤ mean_of before after) }
     ensures small { mag result < 2 ^ 13 }
 {

@@ -11,7 +11,8 @@ use crate::ranges::Ranges;
 
 // The word with the position that was found flipped back.
 fn flipped(word: u16, found: Found) -> u16
-    requires { (outcome found ≡ range_found word) × (Means 12 range_syndrome (range_word_syndrome word) found) }
+    requires answer { outcome found ≡ range_found word }
+    requires means { Means 12 range_syndrome (range_word_syndrome word) found }
     ensures { result ≡ mended word }
 {
     match found {

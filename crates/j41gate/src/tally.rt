@@ -37,7 +37,9 @@ impl Tally {
 
     /// Counts a pair by the outcome of its trial.
     pub(crate) fn note(&mut self, outcome: Result<u32, WordFault>)
-        requires { (self.old.pairs < 2 ^ 57) × ((self.old.words ≤ 64 * self.old.pairs) × (self.old.refused ≤ self.old.pairs)) }
+        requires few_pairs { self.old.pairs < 2 ^ 57 }
+        requires few_words { self.old.words ≤ 64 * self.old.pairs }
+        requires few_refused { self.old.refused ≤ self.old.pairs }
         ensures { self.new ≡ noted self.old outcome }
     {
         self.pairs += 1;

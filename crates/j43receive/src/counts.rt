@@ -66,7 +66,8 @@ impl Counts {
 
     /// Counts a frame by what became of it.
     pub(crate) fn note(&mut self, outcome: &Outcome)
-        requires { (self.old.frames + 1 < 2 ^ 58) × (Within self.old) }
+        requires few_frames { self.old.frames + 1 < 2 ^ 58 }
+        requires within { Within self.old }
         ensures counts { self.new ≡ noted self.old outcome.now }
         ensures within { Within self.new }
     {

@@ -31,7 +31,8 @@ impl Counts {
 
     /// Counts a pair by what became of it.
     pub(crate) fn note(&mut self, outcome: &Outcome)
-        requires { (self.old.pairs < 2 ^ 57) × (Within self.old) }
+        requires few_pairs { self.old.pairs < 2 ^ 57 }
+        requires within { Within self.old }
         ensures counts { self.new ≡ noted self.old outcome.now }
         ensures within { Within self.new }
     {

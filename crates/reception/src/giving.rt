@@ -1,6 +1,6 @@
 // A complete pair as it is given: the words of its 64 samples, and the report on its two blocks.
 // Promise: words and report are the defined ones; no sample lies outside an outlet, so none is refused.
-ghost use Rattle.std.specs.Prelude.{◌≡◌, ◌++◌, length, if◌then◌else◌, nat_eq};
+ghost use Rattle.std.specs.Prelude.{◌≡◌, ◌++◌, length, if◌then◌else◌, ◌==◌};
 ghost use Rattle.decoder.specs.Received.{received};
 ghost use Rattle.reception.specs.Given.{block_told, giving};
 ghost use Rattle.reception.specs.Reports.{block_report_told, report_told};
@@ -45,7 +45,7 @@ impl PairRecord {
         words: &mut [u16],
     ) -> Report
         ensures report { report_told result ≡ (giving (O.WordLaw.meaning outlet.now) (received self.now.first) (received self.now.second) (received next.now.first)).report }
-        ensures buffer { words.new ≡ (if nat_eq (length words.old) 64 then (giving (O.WordLaw.meaning outlet.now) (received self.now.first) (received self.now.second) (received next.now.first)).words else words.old) }
+        ensures buffer { words.new ≡ (if length words.old == 64 then (giving (O.WordLaw.meaning outlet.now) (received self.now.first) (received self.now.second) (received next.now.first)).words else words.old) }
     {
         let second = self.second.follower();
         let next = next.first.follower();

@@ -1,7 +1,7 @@
 // The last four pairs as frames arrive: each frame begins its own pair, follows the one before and completes the one before
 // that, and the oldest pair is given.
 // Promise: the records are the defined ones, and words and report are those of the oldest pair and the one after it.
-ghost use Rattle.std.specs.Prelude.{◌≡◌, ◌+◌, ◌%◌, ◌<◌, map, length, if◌then◌else◌, nat_eq};
+ghost use Rattle.std.specs.Prelude.{◌≡◌, ◌+◌, ◌%◌, ◌<◌, map, length, if◌then◌else◌, ◌==◌};
 ghost use Rattle.frames.specs.Content.{pair_in};
 ghost use Rattle.reception.specs.Arrivals.{Arrival};
 ghost use Rattle.reception.specs.Carried.{carried, carried_by};
@@ -48,7 +48,7 @@ impl Records {
     /// The oldest pair: its words where there is room for 64, and the report on it.
     pub fn give<O: Outlet>(&self, outlet: &O, words: &mut [u16]) -> Report
         ensures report { report_told result ≡ (oldest_given (O.WordLaw.meaning outlet.now) (recent_of self.now)).report }
-        ensures buffer { words.new ≡ (if nat_eq (length words.old) 64 then (oldest_given (O.WordLaw.meaning outlet.now) (recent_of self.now)).words else words.old) }
+        ensures buffer { words.new ≡ (if length words.old == 64 then (oldest_given (O.WordLaw.meaning outlet.now) (recent_of self.now)).words else words.old) }
     {
         let oldest = &self.slots[self.at];
         let next = &self.slots[(self.at + 1) % SLOTS];

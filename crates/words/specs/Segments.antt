@@ -1,3 +1,4 @@
+-- The codes of magnitudes under variant B: they are below 896, a magnitude lies in the cell of its code, and what lies there has that code.
 use Rattle.std.specs.Prelude.{◌≡◌, ℕ, ◌+◌, ◌<◌, ◌≤◌}
 use Rattle.std.proofs.Common.{arith}
 use Rattle.std.proofs.lemmas.Bool.Decides.{nat_tests}

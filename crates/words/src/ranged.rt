@@ -66,7 +66,7 @@ pub struct Additional {
 impl Additional {
     /// The law of a basic and an additional range; none above 4 and 2.
     pub fn new(basic_range: u8, range: u8) -> Option<Additional>
-        ensures { MatchOption result ((basic_range ≤ 4 → 2 < range)) (λ law. (law.basic_range ≡ basic_range) × (law.range ≡ range)) }
+        ensures { MatchOption result (basic_range ≤ 4 → 2 < range) (λ law. (law.basic_range ≡ basic_range) × (law.range ≡ range)) }
     {
         if basic_range <= 4 && range <= 2 {
             Some(Additional { basic_range, range })

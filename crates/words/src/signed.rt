@@ -19,7 +19,9 @@ fn width_of(exponent: u8) -> u32
 
 // The word of a value. The code is got by a shift, since a division would be the dearest step of the sender.
 pub(crate) fn make_signed(half: u32, exponent: u8, value: i32) -> Result<u16, WordFault>
-    requires { (0 < half) × ((half ≤ 512) × (exponent ≤ 7)) }
+    requires some_codes { 0 < half }
+    requires few_codes { half ≤ 512 }
+    requires narrow { exponent ≤ 7 }
     ensures { answer result ≡ making (signed 10 half (2 ^ exponent)) value }
 {
     let size = magnitude(value);
@@ -36,7 +38,9 @@ pub(crate) fn make_signed(half: u32, exponent: u8, value: i32) -> Result<u16, Wo
 
 // The middle of a word's cell.
 pub(crate) fn read_signed(half: u32, exponent: u8, word: u16) -> Result<i32, WordFault>
-    requires { (0 < half) × ((half ≤ 512) × (exponent ≤ 7)) }
+    requires some_codes { 0 < half }
+    requires few_codes { half ≤ 512 }
+    requires narrow { exponent ≤ 7 }
     ensures { answer result ≡ reading (signed 10 half (2 ^ exponent)) word }
 {
     let word = u32::from(word);

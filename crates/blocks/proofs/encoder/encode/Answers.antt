@@ -37,8 +37,8 @@ words_of-even-requires c = λ k h.
     let a = c.searched-ranges.result.additional in
     let law = c.additional_law.result in
     subst (λ (xs : List ℤ). Inside (additional law.basic_range law.range) (get_or xs k (pos 0))) (sym c.differences-diffs.ensures)
-    (subst (λ (q : ℕ). Inside (additional q law.range) (get_or (differences b.samples) k (pos 0))) (sym c.additional_law.ensures.0)
-    (subst (λ (q : ℕ). Inside (additional r q) (get_or (differences b.samples) k (pos 0))) (sym c.additional_law.ensures.1)
+    (subst (λ (q : ℕ). Inside (additional q law.range) (get_or (differences b.samples) k (pos 0))) (sym c.additional_law.ensures.basic)
+    (subst (λ (q : ℕ). Inside (additional r q) (get_or (differences b.samples) k (pos 0))) (sym c.additional_law.ensures.additional)
     (even_inside b.samples b.all r a c.searched-ranges.ensures.additional.holds k h)))
 
 pub returns : goal.returns
@@ -50,7 +50,7 @@ returns c =
     record {
       value = joined b.samples r a c.basic_law.result.range law.basic_range law.range c.odd_samples.result c.differences-diffs.result c.words_of-odd.result c.words_of-even.result
           (basic_is b.samples r a c.searched-ranges.ensures) (additional_is b.samples r a c.searched-ranges.ensures)
-          c.basic_law.ensures c.additional_law.ensures.0 c.additional_law.ensures.1 c.odd_samples.ensures c.differences-diffs.ensures
+          c.basic_law.ensures c.additional_law.ensures.basic c.additional_law.ensures.additional c.odd_samples.ensures c.differences-diffs.ensures
           c.words_of-odd.ensures.value c.words_of-even.ensures.value;
       smallest = c.searched-ranges.ensures;
     }

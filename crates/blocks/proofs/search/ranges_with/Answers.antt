@@ -21,7 +21,7 @@ pub range_of-r-requires : goal.range_of-r-requires
 range_of-r-requires c =
     let b = c.args.block.now in
     let all = All-from_get_or (λ v. mag v < 512 * 2 ^ 4) b.samples (pos 0) (λ k h. b.bounded k) in
-    (omega arith, (omega arith, held_below 512 b.samples c.peak.result (omega arith) c.peak.ensures 4 all))
+    record { few_codes = omega arith; few_ranges = omega arith; held = held_below 512 b.samples c.peak.result (omega arith) c.peak.ensures 4 all }
 
 pub range_of-a-requires : goal.range_of-a-requires
 range_of-a-requires c =
@@ -32,7 +32,7 @@ range_of-a-requires c =
     let first = smallest 512 b.samples c.peak.result (omega arith) c.peak.ensures r c.range_of-r.ensures.holds c.range_of-r.ensures.least in
     let second = moved c.requires c.peak-2.ensures in
     let lt = held_below (512 * 2 ^ r) (differences b.samples) c.peak-2.result (omega (arith, pow_pos r)) second 2 (differences_held b.samples r b.all first.holds) in
-    (omega (arith, w, small r t), (omega arith, omega (arith, w, lt)))
+    record { few_codes = omega (arith, w, small r t); few_ranges = omega arith; held = omega (arith, w, lt) }
 
 pub returns : goal.returns
 returns c =

@@ -6,4 +6,4 @@ pub mean-requires : goal.mean-requires
 mean-requires c =
     let before : SFits w32 (get_or c.args.levels.now (c.args.n / 2 - 1) (pos 0)) = search rules in
     let after : SFits w32 (get_or c.args.levels.now (c.args.n / 2 + 1) (pos 0)) = search rules in
-    simp to_z-of_z (c.requires.1.1 (c.args.n / 2 - 1), c.requires.1.1 (c.args.n / 2 + 1))
+    simp to_z-of_z (record { small_before = c.requires.small_levels (c.args.n / 2 - 1); small_after = c.requires.small_levels (c.args.n / 2 + 1) })

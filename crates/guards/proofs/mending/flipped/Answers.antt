@@ -14,12 +14,12 @@ by_found word r found e h = subst (λ (f : ℕ × ℕ). r ≡ cond (eqb f.0 1) (
 
 pub returns-in-At : goal.returns-in-At
 returns-in-At c =
-    by_found c.args.word _ (1, c.in-At.k) (ap outcome (sym c.in-At.is) ∙ c.requires.0)
+    by_found c.args.word _ (1, c.in-At.k) (ap outcome (sym c.in-At.is) ∙ c.requires.answer)
     (ap (bit_xor c.args.word) (one_shl (c.positions.result - c.in-At.k) 16 (omega arith) ∙ ap (λ (n : ℕ). alone n c.in-At.k) c.positions.ensures))
 
 pub returns-in-Clean : goal.returns-in-Clean
 returns-in-Clean c =
     ⊎_elim
-    (λ (e : c.args.found ≡ Clean). by_found c.args.word c.args.word (0, 0) (ap outcome (sym e) ∙ c.requires.0) refl)
-    (λ (e : c.args.found ≡ Nowhere). by_found c.args.word c.args.word (2, 0) (ap outcome (sym e) ∙ c.requires.0) refl)
+    (λ (e : c.args.found ≡ Clean). by_found c.args.word c.args.word (0, 0) (ap outcome (sym e) ∙ c.requires.answer) refl)
+    (λ (e : c.args.found ≡ Nowhere). by_found c.args.word c.args.word (2, 0) (ap outcome (sym e) ∙ c.requires.answer) refl)
     c.in-Clean.is

@@ -10,10 +10,10 @@ unfolding range_found
 located_so word s found e h = h ∙ ap (located 12 range_syndrome) e
 
 pub flipped-mended-requires : goal.flipped-mended-requires
-flipped-mended-requires c = (
-  located_so c.args.word c.range_word_syndrome.result c.locate-found.result c.range_word_syndrome.ensures c.locate-found.ensures.answer,
-  subst (λ (s : ℕ). Means 12 range_syndrome s c.locate-found.result) c.range_word_syndrome.ensures c.locate-found.ensures.means,
-)
+flipped-mended-requires c = record {
+  answer = located_so c.args.word c.range_word_syndrome.result c.locate-found.result c.range_word_syndrome.ensures c.locate-found.ensures.answer;
+  means = subst (λ (s : ℕ). Means 12 range_syndrome s c.locate-found.result) c.range_word_syndrome.ensures c.locate-found.ensures.means;
+}
 
 pub returns : goal.returns
 unfolding ranges_told

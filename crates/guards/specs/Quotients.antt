@@ -1,5 +1,5 @@
 -- What is left of a division is the remainder and nothing else is, and one turn of the division by shift and xor.
-use Rattle.std.specs.Prelude.{◌≡◌, ℕ, ◌+◌, ◌*◌, ◌/◌, ◌%◌, ◌^◌, ◌<◌, true, ◌≢◌, bit_and, bit_xor, nat_eq, nat_lt, refl}
+use Rattle.std.specs.Prelude.{◌≡◌, ℕ, ◌+◌, ◌*◌, ◌/◌, ◌%◌, ◌^◌, ◌<◌, true, ◌==◌, ◌≢◌, bit_and, bit_xor, nat_lt, refl}
 use Rattle.std.proofs.Common.{sym, ap, ◌∙◌, arith}
 use Rattle.std.specs.Int.Bits.{xor_zero_l, xor_zero_r, xor_assoc, xor_self}
 use Rattle.std.proofs.lemmas.Nat.{shl_whole, shr_below, and_mask, shr-shr, shl-shr, div-add-mod', mod_below, pow_pos, xor_shr, xor_comm}
@@ -17,23 +17,23 @@ unfolding times_divisor
 times_sum a b = columns_sum (λ k. divisor * 2 ^ k) 27 a b
 
 -- computed: a shifted divisor leaves nothing, a short polynomial leaves itself, and z^k times the divisor is the divisor shifted
-gone_test : below (λ k. nat_eq (remainder (divisor * 2 ^ k)) 0) 27 ≡ true
+gone_test : below (λ k. remainder (divisor * 2 ^ k) == 0) 27 ≡ true
 unfolding remainder columns
 gone_test = refl
 
-short_test : below (λ r. nat_eq (remainder r) r) 32 ≡ true
+short_test : below (λ r. remainder r == r) 32 ≡ true
 unfolding remainder columns
 short_test = refl
 
-shift_test : below (λ k. nat_eq (times_divisor (2 ^ k)) (divisor * 2 ^ k)) 27 ≡ true
+shift_test : below (λ k. times_divisor (2 ^ k) == divisor * 2 ^ k) 27 ≡ true
 unfolding times_divisor columns
 shift_test = refl
 
 pub short : (r : ℕ) → r < 2 ^ 5 → remainder r ≡ r
-short r h = eqb-true _ _ (each (λ r. nat_eq (remainder r) r) 32 short_test r h)
+short r h = eqb-true _ _ (each (λ r. remainder r == r) 32 short_test r h)
 
 shifted : (k : ℕ) → k < 27 → times_divisor (2 ^ k) ≡ divisor * 2 ^ k
-shifted k h = eqb-true _ _ (each (λ k. nat_eq (times_divisor (2 ^ k)) (divisor * 2 ^ k)) 27 shift_test k h)
+shifted k h = eqb-true _ _ (each (λ k. times_divisor (2 ^ k) == divisor * 2 ^ k) 27 shift_test k h)
 
 -- a remainder has degree below 5
 power_test : below (λ k. nat_lt (power_z k) (2 ^ 5)) 32 ≡ true
@@ -48,7 +48,7 @@ multiple : (q : ℕ) → remainder (times_divisor q) ≡ 0
 unfolding times_divisor
 multiple q =
     columns_through remainder remainder_sum (short 0 (omega arith)) (λ k. divisor * 2 ^ k) 27 q
-    ∙ columns_none (λ k. remainder (divisor * 2 ^ k)) 27 q (λ k h. eqb-true _ _ (each (λ k. nat_eq (remainder (divisor * 2 ^ k)) 0) 27 gone_test k h))
+    ∙ columns_none (λ k. remainder (divisor * 2 ^ k)) 27 q (λ k h. eqb-true _ _ (each (λ k. remainder (divisor * 2 ^ k) == 0) 27 gone_test k h))
 
 pub only : (w r : ℕ) → Divided w r → r ≡ remainder w
 only w r d =

@@ -1,6 +1,6 @@
 // Check codes: what every code promises, the (12,8) code of the range word and the (29,24) code of a block's guard bits.
 // Promise: both keep the law of a check code, the division leaves the one remainder, and a range word as made has syndrome zero.
-ghost use Rattle.std.specs.Prelude.{◌≡◌, ℕ, ◌^◌, ◌<◌};
+ghost use Rattle.std.specs.Prelude.{◌≡◌, ℕ, ◌+◌, ◌*◌, ◌%◌, ◌^◌, ◌<◌};
 ghost use Rattle.guards.specs.Codes.{Code};
 ghost use Rattle.guards.specs.Division.{Divided, remainder, guard_syndrome, checks_of};
 ghost use Rattle.guards.specs.Parities.{guards, parities as parities_of};
@@ -26,6 +26,14 @@ pub trait CheckCode {
         ensures { result ≡ syndrome set };
 
     ghost code: { Code positions syndrome };
+}
+
+// A number with one bit more below its own, the parity of so many ones.
+pub(crate) fn append_parity(number: u32, ones: u32) -> u32
+    requires { number < 2 ^ 31 }
+    ensures { result ≡ 2 * number + ones % 2 }
+{
+    2 * number + ones % 2
 }
 
 /// The (12,8) code of the range word: positions 1 to 12 are R1 to R12.
@@ -57,7 +65,7 @@ impl CheckCode for RangeCode {
     fn syndrome(&self, set: u32) -> u32 {
         let mut syndrome = 0;
         for check in RANGE_CHECKS {
-            syndrome = 2 * syndrome + (set & check).count_ones() % 2;
+            syndrome = append_parity(syndrome, (set & check).count_ones());
         }
         syndrome
     }

@@ -26,10 +26,8 @@ pub fn locate<C: CheckCode>(code: &C, syndrome: u32) -> Found
         return Found::Clean;
     }
     let positions = code.positions();
-    for k in 1..=positions {
-        if code.syndrome(1 << (positions - k)) == syndrome {
-            return Found::At(k);
-        }
+    match (0..positions).find(|place| code.syndrome(1 << *place) == syndrome) {
+        Some(place) => Found::At(positions - place),
+        None => Found::Nowhere,
     }
-    Found::Nowhere
 }

@@ -36,17 +36,25 @@ fn ranges_in(word: u16, place: u32) -> Option<Ranges>
     Ranges::from_code((word >> place & ALL_OF_A_CODE) as u8)
 }
 
-/// A received range word put right: what the locator says of it, and the ranges of block 1 and block 2, none for the unused code.
-pub fn mend(word: u16) -> (Found, Option<Ranges>, Option<Ranges>)
-    ensures found { outcome result.0 ≡ range_found word }
-    ensures first { numbers_of result.1 ≡ ranges_told word 1 }
-    ensures second { numbers_of result.2 ≡ ranges_told word 2 }
+/// What a received range word tells: what the locator says of it, and the ranges of block 1 and block 2, none for the unused code.
+#[derive(Clone, Copy, PartialEq, Eq, Debug)]
+pub struct Told {
+    pub found: Found,
+    pub first: Option<Ranges>,
+    pub second: Option<Ranges>,
+}
+
+/// A received range word put right, and read.
+pub fn mend(word: u16) -> Told
+    ensures found { outcome result.found ≡ range_found word }
+    ensures first { numbers_of result.first ≡ ranges_told word 1 }
+    ensures second { numbers_of result.second ≡ ranges_told word 2 }
 {
     let found = locate(&RangeCode, range_word_syndrome(word));
     let mended = flipped(word, found);
-    (
+    Told {
         found,
-        ranges_in(mended, FIRST_CODE),
-        ranges_in(mended, SECOND_CODE),
-    )
+        first: ranges_in(mended, FIRST_CODE),
+        second: ranges_in(mended, SECOND_CODE),
+    }
 }

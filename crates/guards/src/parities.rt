@@ -5,7 +5,7 @@ ghost use Rattle.guards.specs.Division.{guard_syndrome};
 ghost use Rattle.guards.specs.Parities.{guards, parities};
 ghost use Rattle.guards.specs.Words.{by_sample};
 
-use crate::codes::{ALL_CHECKS, CheckCode, DEGREE, GuardCode};
+use crate::codes::{ALL_CHECKS, CheckCode, DEGREE, GuardCode, append_parity};
 
 // The samples that each parity covers: p1 to p16 the odd samples in their order, one each; of p17 to p24
 // the j-th, from 1, the even pair of samples 4j - 2 and 4j.
@@ -34,12 +34,11 @@ pub fn parities(odd: &[u16; 16], even: &[u16; 16]) -> u32
 {
     let mut parities = 0;
     for sample in ODD_GROUPS {
-        let word = odd[sample / 2];
-        parities = 2 * parities + (word & ODD_BITS).count_ones() % 2;
+        parities = append_parity(parities, (odd[sample / 2] & ODD_BITS).count_ones());
     }
     for [first, second] in EVEN_GROUPS {
         let sum = even[first / 2 - 1] ^ even[second / 2 - 1];
-        parities = 2 * parities + (sum & EVEN_BITS).count_ones() % 2;
+        parities = append_parity(parities, (sum & EVEN_BITS).count_ones());
     }
     parities
 }

@@ -1,60 +1,43 @@
-use Rattle.std.proofs.Common.{◌≡◌, ℕ, ◌+◌, ◌-◌, ◌*◌, ◌%◌, ◌^◌, ◌<◌, ◌≤◌, ◌⊎◌, sym, ap, ◌∙◌, ⊎_elim, arith}
+use Rattle.std.proofs.Common.{◌≡◌, ℕ, ◌-◌, ◌*◌, ◌%◌, ◌^◌, ◌≤◌, Some, None, sym, refl, ap, ◌∙◌, arith, rules}
+use Rattle.std.specs.Bool.{⊤}
+use Rattle.std.proofs.lemmas.Iterator.{first_from_Range}
 use Rattle.std.proofs.lemmas.Nat.{one_shl}
 use Rattle.guards.specs.Codes.{alone, Position}
 use Rattle.guards.proofs.Locating.{located_at, located_nowhere, flipped_at, flipped_nowhere}
 use Rattle.guards.proofs.locator.locate.Goals as goal
 
--- the set that is shifted into place holds the position alone
-shifted : (n m k : ℕ) → m ≡ n → n ≤ 32 → 1 ≤ k → k ≤ n → (1 * 2 ^ (m - k)) % 2 ^ 32 ≡ alone n k
-shifted n m k e few lo hi = one_shl (m - k) 32 (omega arith) ∙ ap (λ i. 2 ^ (i - k)) e
+-- the set that is shifted to the place of a position holds it alone
+shifted : (n k i : ℕ) → n ≤ 32 → Position n k → n - k ≡ i → (1 * 2 ^ i) % 2 ^ 32 ≡ alone n k
+shifted n k i few p e = one_shl i 32 (omega (arith, p.from)) ∙ ap (λ j. 2 ^ j) (sym e)
 
-next : (j k : ℕ) → j < k + 1 → (j < k) ⊎ (j ≡ k)
-next j k h = search arith
+pub overflow_sub-result : goal.overflow_sub-result
+overflow_sub-result g c =
+    let first = first_from_Range _ _ _ (Some c.in-Some.place) (λ _. ⊤) (λ _. ⊤) c.in-Some.ensures.ran (λ x q k. tt) (λ x q k. (search rules, tt)) in
+    omega arith
 
--- one position more that does not have the syndrome x
-passed : (n m k x r : ℕ) (s : ℕ → ℕ) → m ≡ n → n ≤ 32 → 1 ≤ k → k ≤ m → ((j : ℕ) → 1 ≤ j → j < k → s (alone n j) ≡ x → ⊥)
-    → r ≡ s ((1 * 2 ^ (m - k)) % 2 ^ 32) → (r ≡ x → ⊥) → (j : ℕ) → 1 ≤ j → j < k + 1 → s (alone n j) ≡ x → ⊥
-passed n m k x r s is few lo hi before e off j from upto f =
-    ⊎_elim (λ l. before j from l f)
-    (λ same. off (e ∙ ap s (shifted n m k is few lo (omega arith)) ∙ ap (λ i. s (alone n i)) (sym same) ∙ f))
-    (next j k upto)
-
-pub returns-then-syndrome : goal.returns-then-syndrome
-returns-then-syndrome g c =
+pub returns-in-Some : goal.returns-in-Some
+returns-in-Some g c =
     let law = g.met.C.CheckCode.code in
+    let s = g.C.CheckCode.syndrome in
     let n : ℕ = g.C.CheckCode.positions in
-    let k : ℕ = c.loop-k.k in
-    let is = c.positions-positions.ensures in
-    let p : Position n k = record { from = c.loop-k.auto.k; upto = omega arith } in
-    let e = sym (c.syndrome.ensures ∙ ap g.C.CheckCode.syndrome (shifted n _ k is law.few p.from p.upto)) ∙ c.if-syndrome.true in
+    let i : ℕ = c.in-Some.place in
+    let k : ℕ = c.positions-positions.result - i in
+    let has : ℕ → Type 0 = λ j. s ((1 * 2 ^ j) % 2 ^ 32) ≡ c.args.syndrome in
+    let first = first_from_Range _ _ _ (Some i) has (λ j. has j → ⊥) c.in-Some.ensures.ran (λ x q k. search rules) (λ x q k. search rules) in
+    let p : Position n k = record { from = omega arith; upto = omega arith } in
+    let e : s (alone n k) ≡ c.args.syndrome = ap s (sym (shifted n k i law.few p (omega arith))) ∙ first.2 in
     record { answer = sym (located_at law c.args.syndrome k p e); means = (p, e); flipped = flipped_at law c.args.syndrome k p e }
 
-pub loop-k-preserved : goal.loop-k-preserved
-loop-k-preserved g c =
-    passed _ _ c.loop-k.k c.args.syndrome _ g.C.CheckCode.syndrome c.positions-positions.ensures g.met.C.CheckCode.code.few c.loop-k.auto.k c.loop-k-test.true
-    c.loop-k.invariant c.syndrome.ensures c.if-syndrome.false
-
-pub returns-else-syndrome-eq0 : goal.returns-else-syndrome-eq0
-returns-else-syndrome-eq0 g c =
+pub returns-in-None : goal.returns-in-None
+returns-in-None g c =
     let law = g.met.C.CheckCode.code in
+    let s = g.C.CheckCode.syndrome in
     let n : ℕ = g.C.CheckCode.positions in
     let is = c.positions-positions.ensures in
-    let none : (j : ℕ) → Position n j → g.C.CheckCode.syndrome (alone n j) ≡ c.args.syndrome → ⊥ =
-    λ j p. c.loop-k.invariant j p.from (omega (arith, p.upto)) in
-    record {
-      answer = sym (located_nowhere law c.args.syndrome c.if-syndrome-eq0.false none);
-      means = (c.if-syndrome-eq0.false, none);
-      flipped = flipped_nowhere law c.args.syndrome none;
-    }
-
-pub returns-else-syndrome : goal.returns-else-syndrome
-returns-else-syndrome g c =
-    let law = g.met.C.CheckCode.code in
-    let n : ℕ = g.C.CheckCode.positions in
-    let is = c.positions-positions.ensures in
-    let none : (j : ℕ) → Position n j → g.C.CheckCode.syndrome (alone n j) ≡ c.args.syndrome → ⊥ =
-    λ j p. passed _ _ c.loop-k.k c.args.syndrome _ g.C.CheckCode.syndrome c.positions-positions.ensures law.few c.loop-k.auto.k c.loop-k-test.true
-    c.loop-k.invariant c.syndrome.ensures c.if-syndrome.false j p.from (omega (arith, p.upto)) in
+    let has : ℕ → Type 0 = λ j. s ((1 * 2 ^ j) % 2 ^ 32) ≡ c.args.syndrome in
+    let first = first_from_Range _ _ _ None has (λ j. has j → ⊥) c.in-None.ensures.ran (λ x q k. search rules) (λ x q k. search rules) in
+    let none : (k : ℕ) → Position n k → s (alone n k) ≡ c.args.syndrome → ⊥ = λ k p e.
+    first (n - k) (omega arith) (omega (arith, p.from)) (ap s (shifted n k (n - k) law.few p refl) ∙ e) in
     record {
       answer = sym (located_nowhere law c.args.syndrome c.if-syndrome-eq0.false none);
       means = (c.if-syndrome-eq0.false, none);

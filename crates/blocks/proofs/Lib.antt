@@ -1,4 +1,5 @@
 pub mod Places
+pub mod Filled
 pub mod Peaked
 mod Made
 pub mod Ranging

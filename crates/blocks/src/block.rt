@@ -19,12 +19,7 @@ pub struct Block {
 fn are_samples(values: &[i32]) -> bool
     ensures { Decides result ((k : ℕ) → mag (slice_index_or values.now k (pos 0)) < 2 ^ 13) }
 {
-    for value in values {
-        if *value < -8192 || *value > 8191 {
-            return false;
-        }
-    }
-    true
+    values.iter().all(|value| (-8192..=8191).contains(value))
 }
 
 impl Block {

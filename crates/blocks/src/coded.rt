@@ -7,21 +7,19 @@ use guards::ranges::Ranges;
 /// Half the samples of a block: the odd ones, or the even ones.
 pub const HALF: usize = 16;
 
-/// The words of a block's odd samples 1, 3 .. 31, of 10 bits.
+/// Words for half the samples of a block, each of so many bits.
 #[derive(Clone, Copy)]
-pub struct OddWords {
+pub struct Words<const BITS: u32> {
     pub words: [u16; HALF],
     ghost all: { length words ≡ 16 },
-    ghost short: { (i : ℕ) → slice_index words i < 2 ^ 10 },
+    ghost short: { (i : ℕ) → slice_index words i < 2 ^ BITS },
 }
 
-/// The words of the differences at a block's even samples 2, 4 .. 32, of 9 bits.
-#[derive(Clone, Copy)]
-pub struct EvenWords {
-    pub words: [u16; HALF],
-    ghost all: { length words ≡ 16 },
-    ghost short: { (i : ℕ) → slice_index words i < 2 ^ 9 },
-}
+/// The words of a block's odd samples 1, 3 .. 31.
+pub type OddWords = Words<10>;
+
+/// The words of the differences at a block's even samples 2, 4 .. 32.
+pub type EvenWords = Words<9>;
 
 /// A block as the sender codes it.
 #[derive(Clone, Copy)]

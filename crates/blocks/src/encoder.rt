@@ -10,17 +10,22 @@ use crate::block::Block;
 use crate::coded::{CodedBlock, EvenWords, HALF, OddWords};
 use crate::search::{differences, ranges_with};
 use guards::ranges::Ranges;
-use words::{Additional, Basic, WordLaw, compand};
+use std::array;
+use words::{Additional, Basic, WordLaw};
 
 // The samples 1, 3 .. 31.
 fn odd_samples(block: &Block) -> [i32; HALF]
     ensures { result ≡ odd_samples block.now.samples }
 {
-    let mut out = [0; HALF];
-    for i in 0..HALF {
-        out[i] = block.samples[2 * i];
-    }
-    out
+    array::from_fn(|i| block.samples[2 * i])
+}
+
+// The word of a value that the law holds.
+fn word_of<L: WordLaw>(law: &L, value: i32) -> u16
+    requires { Inside (L.WordLaw.meaning law.now) value }
+    ensures { result ≡ (L.WordLaw.meaning law.now).word value }
+{
+    law.make(value).unwrap()
 }
 
 // The words of sixteen values that the law holds.
@@ -29,41 +34,21 @@ fn words_of<L: WordLaw>(law: &L, values: &[i32; HALF]) -> [u16; HALF]
     ensures value { result ≡ map (L.WordLaw.meaning law.now).word values.now }
     ensures short { (k : ℕ) → slice_index result k < 2 ^ (L.WordLaw.meaning law.now).bits }
 {
-    let mut words = [0; HALF];
-    let _ = compand(law, values, &mut words);
-    words
+    array::from_fn(|i| word_of(law, values[i]))
 }
 
 // The laws of a block's ranges. The bounds of the ranges are the bounds of the laws.
 fn basic_law(ranges: Ranges) -> Basic
     ensures { result.range ≡ ranges.basic }
 {
-    match Basic::new(ranges.basic()) {
-        Some(law) => law,
-        None => unreachable(),
-    }
+    Basic::new(ranges.basic()).unwrap()
 }
 
 fn additional_law(ranges: Ranges) -> Additional
     ensures basic { result.basic_range ≡ ranges.basic }
     ensures additional { result.range ≡ ranges.additional }
 {
-    match Additional::new(ranges.basic(), ranges.additional()) {
-        Some(law) => law,
-        None => unreachable(),
-    }
-}
-
-// The ranges that the search answers.
-fn searched(block: &Block, diffs: &[i32; HALF]) -> Ranges
-    requires { diffs.now ≡ differences block.now.samples }
-    ensures { Ranged block.now.samples result.basic result.additional }
-{
-    let (basic, additional) = ranges_with(block, diffs);
-    match Ranges::new(basic, additional) {
-        Some(ranges) => ranges,
-        None => unreachable(),
-    }
+    Additional::new(ranges.basic(), ranges.additional()).unwrap()
 }
 
 /// A block's ranges and words.
@@ -72,7 +57,7 @@ pub fn encode(block: &Block) -> CodedBlock
     ensures smallest { Ranged block.now.samples result.ranges.basic result.ranges.additional }
 {
     let diffs = differences(block);
-    let ranges = searched(block, &diffs);
+    let ranges = ranges_with(block, &diffs);
     let odd = words_of(&basic_law(ranges), &odd_samples(block));
     let even = words_of(&additional_law(ranges), &diffs);
     CodedBlock {

@@ -8,7 +8,7 @@ mod encoder;
 mod search;
 
 pub use block::{BLOCK, Block};
-pub use coded::{CodedBlock, EvenWords, HALF, OddWords};
+pub use coded::{CodedBlock, EvenWords, HALF, OddWords, Words};
 pub use encoder::encode;
 pub use search::ranges;
 

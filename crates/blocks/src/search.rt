@@ -7,6 +7,8 @@ ghost use Rattle.blocks.specs.Peaks.{Peak};
 
 use crate::block::Block;
 use crate::coded::HALF;
+use guards::ranges::Ranges;
+use std::array;
 use words::magnitude;
 
 fn difference(before: i32, here: i32, after: i32) -> i32
@@ -22,26 +24,22 @@ fn difference(before: i32, here: i32, after: i32) -> i32
 pub(crate) fn differences(block: &Block) -> [i32; HALF]
     ensures { result ≡ differences block.now.samples }
 {
-    let mut out = [0; HALF];
-    for i in 0..HALF {
-        out[i] = difference(
-            block.samples[2 * i],
-            block.samples[2 * i + 1],
-            block.samples[2 * i + 2],
-        );
-    }
-    out
+    array::from_fn(|i| difference(
+        block.samples[2 * i],
+        block.samples[2 * i + 1],
+        block.samples[2 * i + 2],
+    ))
 }
 
 // The greatest magnitude, 0 of no values.
 fn peak(values: &[i32]) -> u32
     ensures { Peak values.now result }
 {
-    let mut top = 0;
-    for value in values {
-        top = top.max(magnitude(*value));
-    }
-    top
+    values
+        .iter()
+        .map(|value| magnitude(*value))
+        .max()
+        .unwrap_or(0)
 }
 
 // The smallest range up to `top` that holds the magnitude m.
@@ -53,29 +51,26 @@ fn range_of(m: u32, half: u32, top: u8) -> u8
     ensures holds { m < half * 2 ^ result }
     ensures least { (k : ℕ) → k < result → half * 2 ^ k ≤ m }
 {
-    let mut r: u8 = 0;
-    while r < top && m >= half << r {
-        r += 1;
-    }
-    r
+    (0..top).find(|r| m < half << *r).unwrap_or(top)
 }
 
 // Basic range 0 holds -512 to 511; so does additional range 0 at basic range 0.
 const HALF_AT_ZERO: u32 = 512;
 
 // Both ranges of a block whose differences are known.
-pub(crate) fn ranges_with(block: &Block, diffs: &[i32; HALF]) -> (u8, u8)
+pub(crate) fn ranges_with(block: &Block, diffs: &[i32; HALF]) -> Ranges
     requires { diffs.now ≡ differences block.now.samples }
-    ensures { Ranged block.now.samples result.0 result.1 }
+    ensures { Ranged block.now.samples result.basic result.additional }
 {
-    let r = range_of(peak(&block.samples), HALF_AT_ZERO, 4);
-    let a = range_of(peak(diffs), HALF_AT_ZERO << r, 2);
-    (r, a)
+    let basic = range_of(peak(&block.samples), HALF_AT_ZERO, 4);
+    let additional = range_of(peak(diffs), HALF_AT_ZERO << basic, 2);
+    Ranges::new(basic, additional).unwrap()
 }
 
 /// The basic and the additional range of a block.
 pub fn ranges(block: &Block) -> (u8, u8)
     ensures { Ranged block.now.samples result.0 result.1 }
 {
-    ranges_with(block, &differences(block))
+    let ranges = ranges_with(block, &differences(block));
+    (ranges.basic(), ranges.additional())
 }

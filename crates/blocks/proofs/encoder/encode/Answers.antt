@@ -25,32 +25,32 @@ joined samples r a q s b odds evens odd even er ea eq es eb eo ee e1 e2 =
 pub words_of-odd-requires : goal.words_of-odd-requires
 words_of-odd-requires c = λ k h.
     let b = c.args.block.now in
-    let r = c.searched-ranges.result.basic in
+    let r = c.ranges_with-ranges.result.basic in
     subst (λ (xs : List ℤ). Inside (basic c.basic_law.result.range) (get_or xs k (pos 0))) (sym c.odd_samples.ensures)
     (subst (λ (q : ℕ). Inside (basic q) (get_or (odd_samples b.samples) k (pos 0))) (sym c.basic_law.ensures)
-    (odd_inside b.samples b.all r c.searched-ranges.ensures.basic.holds k h))
+    (odd_inside b.samples b.all r c.ranges_with-ranges.ensures.basic.holds k h))
 
 pub words_of-even-requires : goal.words_of-even-requires
 words_of-even-requires c = λ k h.
     let b = c.args.block.now in
-    let r = c.searched-ranges.result.basic in
-    let a = c.searched-ranges.result.additional in
+    let r = c.ranges_with-ranges.result.basic in
+    let a = c.ranges_with-ranges.result.additional in
     let law = c.additional_law.result in
     subst (λ (xs : List ℤ). Inside (additional law.basic_range law.range) (get_or xs k (pos 0))) (sym c.differences-diffs.ensures)
     (subst (λ (q : ℕ). Inside (additional q law.range) (get_or (differences b.samples) k (pos 0))) (sym c.additional_law.ensures.basic)
     (subst (λ (q : ℕ). Inside (additional r q) (get_or (differences b.samples) k (pos 0))) (sym c.additional_law.ensures.additional)
-    (even_inside b.samples b.all r a c.searched-ranges.ensures.additional.holds k h)))
+    (even_inside b.samples b.all r a c.ranges_with-ranges.ensures.additional.holds k h)))
 
 pub returns : goal.returns
 returns c =
     let b = c.args.block.now in
-    let r = c.searched-ranges.result.basic in
-    let a = c.searched-ranges.result.additional in
+    let r = c.ranges_with-ranges.result.basic in
+    let a = c.ranges_with-ranges.result.additional in
     let law = c.additional_law.result in
     record {
       value = joined b.samples r a c.basic_law.result.range law.basic_range law.range c.odd_samples.result c.differences-diffs.result c.words_of-odd.result c.words_of-even.result
-          (basic_is b.samples r a c.searched-ranges.ensures) (additional_is b.samples r a c.searched-ranges.ensures)
+          (basic_is b.samples r a c.ranges_with-ranges.ensures) (additional_is b.samples r a c.ranges_with-ranges.ensures)
           c.basic_law.ensures c.additional_law.ensures.basic c.additional_law.ensures.additional c.odd_samples.ensures c.differences-diffs.ensures
           c.words_of-odd.ensures.value c.words_of-even.ensures.value;
-      smallest = c.searched-ranges.ensures;
+      smallest = c.ranges_with-ranges.ensures;
     }

@@ -1,5 +1,5 @@
 // The encoder of a block: both ranges, then the words of the odd samples and of the differences under the laws of these ranges,
-// by the one companding of lists. The ranges hold what is companded, so nothing is ever refused here.
+// each made once. The ranges hold every value that is given a word, so nothing is ever refused here.
 ghost use Rattle.std.specs.Prelude.{◌≡◌, ℕ, ◌^◌, ◌<◌, map, pos, slice_index, slice_index_or};
 ghost use Rattle.words.specs.Meaning.{Inside};
 ghost use Rattle.words.specs.Signed.{basic, additional};
@@ -9,7 +9,6 @@ ghost use Rattle.blocks.specs.Coding.{code_of, coded, odd_samples};
 use crate::block::Block;
 use crate::coded::{CodedBlock, EvenWords, HALF, OddWords};
 use crate::search::{differences, ranges_with};
-use guards::ranges::Ranges;
 use std::array;
 use words::{Additional, Basic, WordLaw};
 
@@ -37,20 +36,6 @@ fn words_of<L: WordLaw>(law: &L, values: &[i32; HALF]) -> [u16; HALF]
     array::from_fn(|i| word_of(law, values[i]))
 }
 
-// The laws of a block's ranges. The bounds of the ranges are the bounds of the laws.
-fn basic_law(ranges: Ranges) -> Basic
-    ensures { result.range ≡ ranges.basic }
-{
-    Basic::new(ranges.basic()).unwrap()
-}
-
-fn additional_law(ranges: Ranges) -> Additional
-    ensures basic { result.basic_range ≡ ranges.basic }
-    ensures additional { result.range ≡ ranges.additional }
-{
-    Additional::new(ranges.basic(), ranges.additional()).unwrap()
-}
-
 /// A block's ranges and words.
 pub fn encode(block: &Block) -> CodedBlock
     ensures value { code_of result ≡ coded block.now.samples }
@@ -58,8 +43,10 @@ pub fn encode(block: &Block) -> CodedBlock
 {
     let diffs = differences(block);
     let ranges = ranges_with(block, &diffs);
-    let odd = words_of(&basic_law(ranges), &odd_samples(block));
-    let even = words_of(&additional_law(ranges), &diffs);
+    let basic = Basic::new(ranges.basic()).unwrap();
+    let additional = Additional::new(ranges.basic(), ranges.additional()).unwrap();
+    let odd = words_of(&basic, &odd_samples(block));
+    let even = words_of(&additional, &diffs);
     CodedBlock {
         ranges,
         odd: OddWords { words: odd },

@@ -16,7 +16,7 @@ use blocks::{EvenWords, HALF, OddWords};
 use decoder::{Cause, Judged, ReceivedBlock, Verdict, judge};
 use guards::codes::GuardCode;
 use guards::locator::{Found, locate};
-use guards::mending::mend;
+use guards::mending::{Told, mend};
 use guards::parities::block_syndrome;
 use guards::ranges::Ranges;
 
@@ -111,7 +111,11 @@ impl PairRecord {
         self.lost |= arrived.lost;
         self.first.even = arrived.frame.first.even;
         self.second.odd = arrived.frame.second.odd;
-        let (found, first, second) = mend(self.ranges);
+        let Told {
+            found,
+            first,
+            second,
+        } = mend(self.ranges);
         self.first.judged = judged(&self.first, self.first_checks, self.lost, found, first);
         self.second.judged = judged(&self.second, self.second_checks, self.lost, found, second);
     }

@@ -1,4 +1,4 @@
-use Rattle.std.proofs.Common.{ℕ, ◌^◌, ◌<◌, ◌≤◌, Bool, true, false, List, length, get_or, ℤ, pos, Decides, MatchBool, sym, refl, subst, ⊎_elim, arith, rules}
+use Rattle.std.proofs.Common.{ℕ, ◌^◌, ◌<◌, Bool, true, false, List, length, get_or, ℤ, pos, Decides, MatchBool, sym, refl, subst, ⊎_elim, arith, rules}
 use lib.Signed.{mag}
 use borrow.Author.Tests.{tests}
 use Rattle.std.specs.List.{AllWithin, HoldsAt}

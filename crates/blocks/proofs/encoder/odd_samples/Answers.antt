@@ -1,4 +1,4 @@
-use Rattle.std.proofs.Common.{◌≡◌, ◌*◌, ◌<◌, get_or, pos, rules}
+use Rattle.std.proofs.Common.{◌*◌, get_or, pos, rules}
 use Rattle.blocks.specs.Coding.{odd_samples}
 use Rattle.blocks.proofs.Filled.{made}
 use Rattle.blocks.proofs.encoder.odd_samples.Goals as goal

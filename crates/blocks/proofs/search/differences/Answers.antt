@@ -1,4 +1,4 @@
-use Rattle.std.proofs.Common.{◌≡◌, ◌+◌, ◌*◌, ◌<◌, get_or, pos, rules}
+use Rattle.std.proofs.Common.{pos, rules}
 use Rattle.blocks.specs.Ranges.{difference_at, differences}
 use Rattle.blocks.proofs.Filled.{made}
 use Rattle.blocks.proofs.search.differences.Goals as goal

@@ -1,39 +1,24 @@
--- Values that a law holds are companded, none refused; and each of their words fits the word length.
-use Rattle.std.proofs.Common.{◌≡◌, ℕ, suc, ◌+◌, ◌^◌, ◌<◌, ◌≤◌, true, List, [], ◌∷◌, map, length, get_or, ℤ, pos, is_ok, Ok, Err, Result, sym, refl, ◌∙◌, subst, ⊎_elim, arith}
-use Rattle.std.proofs.lemmas.Int.{ints}
-use Rattle.std.proofs.lemmas.Nat.{pow_pos}
-use Rattle.std.proofs.lemmas.Bool.{cases_lt, cond-true, eq-eqb}
+-- The words of sixteen values that a law holds: what fills their places is the list of them, and each fits the word length.
+use Rattle.std.proofs.Common.{◌≡◌, ℕ, ◌^◌, ◌<◌, ◌≤◌, List, map, length, get_or, ℤ, pos, sym, ◌∙◌, subst, ⊎_elim, arith}
+use Rattle.std.specs.List.{range_with_len}
+use Rattle.std.proofs.lemmas.Bool.{cases_lt}
 use Rattle.std.proofs.lemmas.List.{get_or_past, get_or-map, length-map}
-use Rattle.words.specs.declared.faults.WordFault.{WordFault}
-use Rattle.words.specs.Meaning.{Meaning, Inside, CellRule, inside}
-use Rattle.words.specs.Answers.{gives, answer}
-use Rattle.words.specs.Lists.{unmade, first_refused, making_all}
+use Rattle.std.proofs.lemmas.List.FromFn.{fill_by_all}
+use Rattle.std.proofs.lemmas.Nat.{pow_pos}
+use Rattle.words.specs.Meaning.{Meaning, Inside, CellRule}
 
-module _ (m : Meaning) where
-  is_inside : (v : ℤ) → Inside m v → inside m v ≡ true
-  is_inside v i = grind (arith, ints, i.above, i.below)
+module _ (m : Meaning) (xs : List ℤ) (n : length xs ≡ 16) where
+  abbrev pub word_at : ℕ → ℕ
+  word_at k = m.word (get_or xs k (pos 0))
 
-  made : (v : ℤ) → Inside m v → unmade m v ≡ 0
-  made v i = cond-true _ _ _ (is_inside v i)
+  pub all_words : (ws : List ℕ) → ws ≡ map word_at (range_with_len 0 16) → ws ≡ map m.word xs
+  all_words ws e = e ∙ sym (fill_by_all word_at (map m.word xs) 16 0 (length-map xs m.word ∙ n) (λ k h. get_or-map m.word xs k (pos 0) 0 (omega arith)))
 
-  pub none_refused : (xs : List ℤ) (i : ℕ) → ((k : ℕ) → k < length xs → Inside m (get_or xs k (pos 0))) → first_refused (unmade m) i xs ≡ gives tt
-  none_refused [] i all = refl
-  none_refused (x ∷ xs) i all =
-      cond-true _ _ _ (eq-eqb (unmade m x) 0 (made x (all 0 (omega arith))))
-      ∙ none_refused xs (i + 1) (λ k h. all (suc k) (omega arith))
-
-  pub all_made : (xs : List ℤ) (n : ℕ) → length xs ≡ n → ((k : ℕ) → k < length xs → Inside m (get_or xs k (pos 0))) → making_all m xs n ≡ gives tt
-  all_made xs n e all = cond-true _ _ _ (eq-eqb n (length xs) (sym e)) ∙ none_refused xs 0 all
-
-  pub words_short : CellRule m → (xs : List ℤ) → ((k : ℕ) → k < length xs → Inside m (get_or xs k (pos 0))) → (k : ℕ) → get_or (map m.word xs) k 0 < 2 ^ m.bits
-  words_short rule xs all k =
+  pub short_words : CellRule m → ((k : ℕ) → k < 16 → Inside m (get_or xs k (pos 0))) → (ws : List ℕ) → ws ≡ map m.word xs → (k : ℕ) → get_or ws k 0 < 2 ^ m.bits
+  short_words rule inside ws e k =
       let P : ℕ → Type 0 = λ w. w < 2 ^ m.bits in
-      ⊎_elim
-      (λ (lt : k < length xs). subst P (sym (get_or-map m.word xs k (pos 0) 0 lt)) (rule.short (get_or xs k (pos 0)) (all k lt)))
+      subst (λ (ls : List ℕ). P (get_or ls k 0)) (sym e)
+      (⊎_elim
+      (λ (lt : k < length xs). subst P (sym (get_or-map m.word xs k (pos 0) 0 lt)) (rule.short (get_or xs k (pos 0)) (inside k (omega arith))))
       (λ (ge : length xs ≤ k). subst P (sym (get_or_past (map m.word xs) k 0 (omega (arith, length-map xs m.word)))) (pow_pos m.bits))
-      (cases_lt k (length xs))
-
--- a call that gives has no fault
-pub gave : {X : Type 0} (r : Result X WordFault) (x : X) → answer r ≡ gives x → is_ok r ≡ true
-gave (Ok y) x e = refl
-gave (Err f) x e = let z : ◌≡◌ {A = ℕ} 0 1 = cc in absurd (omega arith)
+      (cases_lt k (length xs)))

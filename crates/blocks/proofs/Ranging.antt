@@ -1,12 +1,12 @@
 -- What a range holds has words under its law, and the smallest ranges are the ranges as numbers.
 use Rattle.std.proofs.Common.{◌≡◌, ℕ, zero, suc, ◌+◌, ◌*◌, ◌^◌, ◌<◌, ◌≤◌, true, false, ltb, List, length, get_or, ℤ, pos, negsuc, Decides, sym, refl, ap, ◌∙◌, subst, ⊎_elim, mul_assoc, arith}
 use lib.Signed.{mag}
-use Rattle.std.specs.List.{AllByRecursion}
+use Rattle.std.specs.List.{All}
 use Rattle.std.proofs.lemmas.Int.{ints}
 use Rattle.std.proofs.lemmas.Nat.{pow-add}
-use Rattle.std.proofs.ByRecursion.{All-get_or, Decides-by_and}
+use Rattle.std.proofs.lemmas.List.Elements.{All-get_or}
 use Rattle.std.proofs.lemmas.List.FromFn.{get_or-map-range_with_len, length-map-range_with_len}
-use Rattle.std.proofs.lemmas.Bool.Decides.{Decides-ltb}
+use Rattle.std.proofs.lemmas.Bool.Decides.{Decides-by_and, Decides-ltb}
 use Rattle.std.proofs.lemmas.Bool.{cond-true, cond-false, cases_lt}
 use Rattle.words.specs.Meaning.{Inside}
 use Rattle.words.specs.Signed.{signed, basic, additional}
@@ -40,7 +40,7 @@ module _ (samples : List ℤ) (n : length samples ≡ 33) (r : ℕ) where
       (All-get_or (λ v. mag v < 512 * 2 ^ r * 2 ^ a) (differences samples) k (pos 0) (omega (arith, length-map-range_with_len (difference_at samples) 0 16)) all))
 
 -- the test of a range
-pub held_test : (limit : ℕ) (values : List ℤ) → Decides (all_below limit values) (AllByRecursion (λ v. mag v < limit) values)
+pub held_test : (limit : ℕ) (values : List ℤ) → Decides (all_below limit values) (All (λ v. mag v < limit) values)
 held_test limit values = Decides-by_and (λ v. ltb (mag v) limit) (λ v. mag v < limit) (all_below limit) (λ v. Decides-ltb (mag v) limit) refl (λ _ _. refl) values
 
 module _ (half : ℕ) (values : List ℤ) (r : ℕ) (s : Smallest half r values) where

@@ -1,12 +1,12 @@
 -- The two ranges of a block. Its 32 samples and the follower stand as 33 values: value k, from 0, is sample k + 1.
 use Rattle.std.specs.Prelude.{ℕ, zero, suc, ◌+◌, ◌*◌, ◌^◌, ◌<◌, ◌≤◌, Bool, true, cond, ◌&&◌, List, [], ◌∷◌, map, ℤ, pos, ◌-ℤ◌, ◌*ℤ◌, nat_lt, slice_index_or}
 use Rattle.std.specs.Int.Signed.{mag}
-use Rattle.std.specs.List.{range_with_len, AllByRecursion}
+use Rattle.std.specs.List.{range_with_len, All}
 
 -- A law whose range 0 holds the values from -half to half - 1 holds at range r those from -half * 2^r to half * 2^r - 1.
 -- (`mag v` is v, or -1 - v of a negative v.)
 abbrev pub Holds : ℕ → ℕ → List ℤ → Type 0
-Holds half r values = AllByRecursion (λ v. mag v < half * 2 ^ r) values
+Holds half r values = All (λ v. mag v < half * 2 ^ r) values
 
 -- The smallest range that holds all of them.
 pub record Smallest (half r : ℕ) (values : List ℤ) : Type 0 where

@@ -7,7 +7,7 @@ ghost use Rattle.blocks.specs.Ranges.{Ranged, differences};
 ghost use Rattle.blocks.specs.Coding.{code_of, coded, odd_samples};
 
 use crate::block::Block;
-use crate::coded::{CodedBlock, EvenWords, HALF, OddWords};
+use crate::coded::{CodedBlock, HALF, Words};
 use crate::search::{differences, ranges_with};
 use std::array;
 use words::{Additional, Basic, WordLaw};
@@ -28,12 +28,14 @@ fn word_of<L: WordLaw>(law: &L, value: i32) -> u16
 }
 
 // The words of sixteen values that the law holds.
-fn words_of<L: WordLaw>(law: &L, values: &[i32; HALF]) -> [u16; HALF]
-    requires { (k : ℕ) → k < 16 → Inside (L.WordLaw.meaning law.now) (slice_index_or values.now k (pos 0)) }
-    ensures value { result ≡ map (L.WordLaw.meaning law.now).word values.now }
-    ensures short { (k : ℕ) → slice_index result k < 2 ^ (L.WordLaw.meaning law.now).bits }
+fn words_of<L: WordLaw, const BITS: u32>(law: &L, values: &[i32; HALF]) -> Words<BITS>
+    requires bits { (L.WordLaw.meaning law.now).bits ≡ BITS }
+    requires inside { (k : ℕ) → k < 16 → Inside (L.WordLaw.meaning law.now) (slice_index_or values.now k (pos 0)) }
+    ensures { result.words ≡ map (L.WordLaw.meaning law.now).word values.now }
 {
-    array::from_fn(|i| word_of(law, values[i]))
+    Words {
+        words: array::from_fn(|i| word_of(law, values[i])),
+    }
 }
 
 /// A block's ranges and words.
@@ -45,11 +47,9 @@ pub fn encode(block: &Block) -> CodedBlock
     let ranges = ranges_with(block, &diffs);
     let basic = Basic::new(ranges.basic()).unwrap();
     let additional = Additional::new(ranges.basic(), ranges.additional()).unwrap();
-    let odd = words_of(&basic, &odd_samples(block));
-    let even = words_of(&additional, &diffs);
     CodedBlock {
         ranges,
-        odd: OddWords { words: odd },
-        even: EvenWords { words: even },
+        odd: words_of(&basic, &odd_samples(block)),
+        even: words_of(&additional, &diffs),
     }
 }

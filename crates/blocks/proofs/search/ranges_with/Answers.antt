@@ -1,7 +1,7 @@
 use Rattle.std.proofs.Common.{◌≡◌, ℕ, ◌*◌, ◌%◌, ◌^◌, ◌<◌, ◌≤◌, List, ℤ, pos, subst, arith, pow_mono, rules}
 use lib.Signed.{mag}
 use Rattle.std.proofs.lemmas.Nat.{shl_whole, pow_pos}
-use Rattle.std.proofs.ByRecursion.{All-from_get_or}
+use Rattle.std.proofs.lemmas.List.Elements.{All-from_get_or}
 use Rattle.blocks.specs.Ranges.{Ranged, differences}
 use Rattle.blocks.specs.Peaks.{Peak}
 use Rattle.blocks.proofs.Peaked.{held_below, smallest, differences_held}

@@ -7,7 +7,7 @@ ghost use Rattle.blocks.specs.Peaks.{Peak};
 
 use crate::block::Block;
 use crate::coded::HALF;
-use guards::ranges::Ranges;
+use guards::ranges::{ADDITIONAL_MAX, BASIC_MAX, Ranges};
 use std::array;
 use words::magnitude;
 
@@ -42,16 +42,18 @@ fn peak(values: &[i32]) -> u32
         .unwrap_or(0)
 }
 
-// The smallest range up to `top` that holds the magnitude m.
-fn range_of(m: u32, half: u32, top: u8) -> u8
+// The smallest range up to `top` that holds this magnitude, where range 0 holds `half` magnitudes.
+fn range_of(greatest: u32, half: u32, top: u8) -> u8
     requires few_codes { half ≤ 2 ^ 15 }
     requires few_ranges { top ≤ 4 }
-    requires held { m < half * 2 ^ top }
+    requires held { greatest < half * 2 ^ top }
     ensures top { result ≤ top }
-    ensures holds { m < half * 2 ^ result }
-    ensures least { (k : ℕ) → k < result → half * 2 ^ k ≤ m }
+    ensures holds { greatest < half * 2 ^ result }
+    ensures least { (k : ℕ) → k < result → half * 2 ^ k ≤ greatest }
 {
-    (0..top).find(|r| m < half << *r).unwrap_or(top)
+    (0..top)
+        .find(|range| greatest < half << *range)
+        .unwrap_or(top)
 }
 
 // Basic range 0 holds -512 to 511; so does additional range 0 at basic range 0.
@@ -62,8 +64,8 @@ pub(crate) fn ranges_with(block: &Block, diffs: &[i32; HALF]) -> Ranges
     requires { diffs.now ≡ differences block.now.samples }
     ensures { Ranged block.now.samples result.basic result.additional }
 {
-    let basic = range_of(peak(&block.samples), HALF_AT_ZERO, 4);
-    let additional = range_of(peak(diffs), HALF_AT_ZERO << basic, 2);
+    let basic = range_of(peak(&block.samples), HALF_AT_ZERO, BASIC_MAX);
+    let additional = range_of(peak(diffs), HALF_AT_ZERO << basic, ADDITIONAL_MAX);
     Ranges::new(basic, additional).unwrap()
 }
 

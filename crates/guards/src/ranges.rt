@@ -11,9 +11,11 @@ pub struct Ranges {
     ghost within: { (basic ≤ 4) × (additional ≤ 2) },
 }
 
-const BASIC_MAX: u8 = 4;
+/// The widest basic range.
+pub const BASIC_MAX: u8 = 4;
 
-const ADDITIONAL_MAX: u8 = 2;
+/// The widest additional range.
+pub const ADDITIONAL_MAX: u8 = 2;
 
 // The code is 14 - basic - 5 * additional: a row for each additional range, from basic range 0 on.
 const CODES: [[u8; 5]; 3] = [[14, 13, 12, 11, 10], [9, 8, 7, 6, 5], [4, 3, 2, 1, 0]];

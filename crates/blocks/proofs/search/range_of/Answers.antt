@@ -14,7 +14,7 @@ before (Some i) top Yes No first k lt = (omega (arith, first.1), first.3 k (omeg
 pub returns-clause-least : goal.returns-clause-least
 returns-clause-least c = λ k lt.
     let limit : ℕ → ℕ = λ r. (c.args.half * 2 ^ r) % 2 ^ 32 in
-    let first = first_from_Range _ _ _ c.find.result (λ r. c.args.m < limit r) (λ r. limit r ≤ c.args.m) c.find.ensures.ran (λ x q k. search (rules, tests)) (λ x q k. search (rules, tests)) in
-    let passed = before c.find.result c.args.top (λ r. c.args.m < limit r) (λ r. limit r ≤ c.args.m) first k (subst (λ r. k < r) c.unwrap_or.ensures lt) in
+    let first = first_from_Range _ _ _ c.find.result (λ r. c.args.greatest < limit r) (λ r. limit r ≤ c.args.greatest) c.find.ensures.ran (λ x q k. search (rules, tests)) (λ x q k. search (rules, tests)) in
+    let passed = before c.find.result c.args.top (λ r. c.args.greatest < limit r) (λ r. limit r ≤ c.args.greatest) first k (subst (λ r. k < r) c.unwrap_or.ensures lt) in
     let narrow : k ≤ 4 = omega (arith, passed.0) in
     omega (arith, passed.1, mul-le c.args.half (2 ^ k) (2 ^ 15) (2 ^ 4) c.requires.few_codes (pow_mono narrow))

@@ -73,6 +73,7 @@ pub(crate) fn ranges_with(block: &Block, diffs: &[i32; HALF]) -> Ranges
 pub fn ranges(block: &Block) -> (u8, u8)
     ensures { Ranged block.now.samples result.0 result.1 }
 {
+    // Answered as two numbers: the form of this answer is a rule of the project.
     let ranges = ranges_with(block, &differences(block));
     (ranges.basic(), ranges.additional())
 }

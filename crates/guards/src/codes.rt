@@ -130,6 +130,7 @@ pub fn remainder(polynomial: u32) -> u32
     ensures only { (s : ℕ) → Divided polynomial s → s ≡ result }
     ensures value { result ≡ remainder polynomial }
 {
+    // Written out by shift and xor, degree by degree: the form of this division is a rule of the project.
     let mut left = polynomial;
     for degree in (DEGREE..u32::BITS).rev() {
         if left >> degree & 1 == 1 {

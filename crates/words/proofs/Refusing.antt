@@ -1,6 +1,6 @@
 -- The search of a list for its first refusal, step by step; what one call says of one element; and a list written from
 -- another, element by element.
-use Rattle.std.proofs.Common.{◌≡◌, ℕ, zero, suc, ◌+◌, ◌<◌, ◌≤◌, List, [], ◌∷◌, ◌++◌, map, length, get_or, take, drop, set, ℤ, sym, ap, ◌∙◌, arith}
+use Rattle.std.proofs.Common.{◌≡◌, ℕ, zero, suc, ◌+◌, ◌<◌, ◌≤◌, List, [], ◌∷◌, ◌++◌, map, length, get_or, take, drop, set, sym, ap, ◌∙◌, arith}
 use Rattle.std.proofs.lemmas.Bool.Decides.{nat_tests}
 use Rattle.std.proofs.lemmas.Bool.{eq-eqb, ne_eqb, cond-true, cond-false}
 use Rattle.std.proofs.lemmas.List.{drop_more, drop_all, length-map, length-take-le, set_at, map_more, append_assoc, append-nil, take_all}
@@ -32,6 +32,13 @@ module _ {A B : Type 0} (f : A → ℕ) (g : A → B) (x : A) where
 
   pub said_yes : (y : B) → gives y ≡ said f g x → (f x ≡ 0) × (y ≡ g x)
   said_yes y e = grind (arith, nat_tests)
+
+-- where all were tried, none is refused
+pub none_left : {A B : Type 0} (f : A → ℕ) (g : A → B) (xs : List A) (i : ℕ) (x : A) (n p : ℕ) (l : Layer) → first_refused f 0 xs ≡ gives tt → i < length xs → x ≡ get_or xs i x → refuses n p l ≡ said f g x → ⊥
+none_left f g xs i x n p l all h at e =
+    let no = said_no f g x n p l e in
+    let yes = ap f at ∙ refusal_all f xs 0 all i x h in
+    omega arith
 
 -- one element more of a list that is written from another
 pub wrote_more : {X Y : Type 0} (f : X → Y) (xs : List X) (ys zs : List Y) (i : ℕ) (d : X) → i < length xs → i < length zs → ys ≡ map f (take i xs) ++ drop i zs → set ys i (f (get_or xs i d)) ≡ map f (take (i + 1) xs) ++ drop (i + 1) zs

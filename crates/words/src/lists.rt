@@ -24,7 +24,7 @@ fn convert<A: Copy, B: Copy, F: Fn(A) -> Result<B, WordFault>>(
             return Err(fault.at(i));
         }
     }
-    // none is refused any more
+    // All were tried, so none is refused here. By index: nothing can be proved of a slice after `iter_mut().zip(..)`.
     for (i, item) in items.iter().enumerate() {
         out[i] = one(*item)?;
     }

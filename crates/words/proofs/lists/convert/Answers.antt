@@ -1,8 +1,6 @@
-use Rattle.std.proofs.Common.{◌≡◌, set, refl, sym, ap, ◌∙◌, arith}
+use Rattle.std.proofs.Common.{set, sym, ap, ◌∙◌, arith}
 use Rattle.words.specs.Faults.{number_of}
-use Rattle.words.specs.Lists.{first_refused}
-use Rattle.words.specs.Answers.{gives}
-use Rattle.words.proofs.Refusing.{refusal_more, refusal_stop, refusal_end, refusal_all, said_no, said_yes, wrote_more, wrote_all}
+use Rattle.words.proofs.Refusing.{refusal_more, refusal_stop, refusal_end, none_left, said_no, said_yes, wrote_more, wrote_all}
 use Rattle.words.proofs.lists.convert.Goals as goal
 
 pub returns-in-Err-clause-answer : goal.returns-in-Err-clause-answer
@@ -21,22 +19,17 @@ loop-i-preserved g c f h k =
     let y = said_yes f h x.result _ (k x.result _ c.in_default.ensures) in
     c.loop-i.invariant f h k ∙ refusal_more f c.args.items.now c.loop-i.i x.result c.loop-i-test.true (ap f (sym x.is) ∙ y.0)
 
--- nothing is refused where all was tried
 pub returns-in_err-out-clause-answer : goal.returns-in_err-out-clause-answer
 returns-in_err-out-clause-answer g c f h k =
     let x = c.index-items-i-in-loop-i-2 in
-    let n = said_no f h x.result _ _ _ (k x.result _ c.in_err-out.ensures) in
     let all = c.loop-i.invariant f h k ∙ refusal_end f c.args.items.now c.loop-i.i c.loop-i-test.false in
-    let z = ap f x.is ∙ refusal_all f c.args.items.now 0 all c.loop-i-2.i x.result c.loop-i-2-test.true in
-    absurd (omega arith)
+    absurd (none_left f h c.args.items.now c.loop-i-2.i x.result _ _ _ all c.loop-i-2-test.true x.is (k x.result _ c.in_err-out.ensures))
 
 pub returns-in_err-out-clause-buffer : goal.returns-in_err-out-clause-buffer
 returns-in_err-out-clause-buffer g c f h k =
     let x = c.index-items-i-in-loop-i-2 in
-    let n = said_no f h x.result _ _ _ (k x.result _ c.in_err-out.ensures) in
     let all = c.loop-i.invariant f h k ∙ refusal_end f c.args.items.now c.loop-i.i c.loop-i-test.false in
-    let z = ap f x.is ∙ refusal_all f c.args.items.now 0 all c.loop-i-2.i x.result c.loop-i-2-test.true in
-    absurd (omega arith)
+    absurd (none_left f h c.args.items.now c.loop-i-2.i x.result _ _ _ all c.loop-i-2-test.true x.is (k x.result _ c.in_err-out.ensures))
 
 pub loop-i-2-preserved : goal.loop-i-2-preserved
 loop-i-2-preserved g c f h k =

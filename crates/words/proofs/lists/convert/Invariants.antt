@@ -1,4 +1,4 @@
-use Rattle.std.proofs.Common.{◌≡◌, ℕ, ◌++◌, map, take, drop, length}
+use Rattle.std.proofs.Common.{◌≡◌, ◌++◌, map, take, drop}
 use Rattle.words.specs.Lists.{Converts, first_refused}
 use Rattle.words.proofs.lists.convert.Given as goal
 

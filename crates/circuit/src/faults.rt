@@ -1,14 +1,13 @@
 // Why a call on pairs was refused. What a lower layer found wrong is carried whole inside.
 ghost use Rattle.std.specs.Prelude.{◌≡◌};
-ghost use Rattle.words.specs.declared.faults.Layer.TheVariants.{Pair as PairLayer};
 ghost use Rattle.circuit.specs.declared.faults.PairFault.TheVariants.{Word, Frame};
-ghost use Rattle.circuit.specs.Faults.{number_of, place_of, layer_of};
+ghost use Rattle.circuit.specs.Faults.{refusal_of};
 
 use frames::FrameFault;
 use words::{Layer, Refusal, WordFault};
 
 /// Why a pair was not put, or not given.
-#[derive(Clone, Copy)]
+#[derive(Clone, Copy, PartialEq, Eq, Debug)]
 pub enum PairFault {
     /// The studio: another number of samples or words than 64, with that number.
     Count(usize),
@@ -38,32 +37,22 @@ impl From<FrameFault> for PairFault {
     }
 }
 
-// A refusal of this layer's own.
-fn of_pairs(number: u8, place: usize) -> Refusal
-    ensures number { result.number ≡ number }
-    ensures place { result.place ≡ place }
-    ensures layer { result.layer ≡ PairLayer }
-{
-    Refusal {
-        number,
-        place,
-        layer: Layer::Pair,
-    }
-}
+/// What the user is told.
+impl From<PairFault> for Refusal {
+    ghost from_gives = { λ fault refusal. refusal ≡ refusal_of fault };
 
-impl PairFault {
-    /// What the user is told.
-    pub fn refusal(self) -> Refusal
-        ensures number { result.number ≡ number_of self }
-        ensures place { result.place ≡ place_of self }
-        ensures layer { result.layer ≡ layer_of self }
-    {
-        match self {
-            PairFault::Count(place) => of_pairs(1, place),
-            PairFault::Outside(place) => of_pairs(2, place),
-            PairFault::Room(place) => of_pairs(6, place),
-            PairFault::Word(fault) => fault.refusal(),
-            PairFault::Frame(fault) => fault.refusal(),
+    fn from(fault: PairFault) -> Refusal {
+        let (number, place) = match fault {
+            PairFault::Count(place) => (1, place),
+            PairFault::Outside(place) => (2, place),
+            PairFault::Room(place) => (6, place),
+            PairFault::Word(fault) => return fault.into(),
+            PairFault::Frame(fault) => return fault.into(),
+        };
+        Refusal {
+            number,
+            place,
+            layer: Layer::Pair,
         }
     }
 }

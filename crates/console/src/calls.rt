@@ -24,7 +24,7 @@ fn read(law: Law, word: u16) -> Result<Reply, WordFault> {
 fn told(outcome: Result<Reply, WordFault>) -> Reply {
     match outcome {
         Ok(reply) => reply,
-        Err(fault) => Reply::Refused(fault.refusal()),
+        Err(fault) => Reply::Refused(fault.into()),
     }
 }
 
@@ -32,7 +32,7 @@ fn words_of(heap: Global, law: Law, room: usize, values: &[i32]) -> Result<Reply
     let mut words = vec![in heap; 0u16; room]?;
     match under!(law, law, compand(&law, values, words.as_mut_slice())) {
         Ok(()) => Ok(Reply::Words(words)),
-        Err(fault) => Ok(Reply::Refused(fault.refusal())),
+        Err(fault) => Ok(Reply::Refused(fault.into())),
     }
 }
 
@@ -40,7 +40,7 @@ fn values_of(heap: Global, law: Law, room: usize, words: &[u16]) -> Result<Reply
     let mut values = vec![in heap; 0i32; room]?;
     match under!(law, law, expand(&law, words, values.as_mut_slice())) {
         Ok(()) => Ok(Reply::Values(values)),
-        Err(fault) => Ok(Reply::Refused(fault.refusal())),
+        Err(fault) => Ok(Reply::Refused(fault.into())),
     }
 }
 

@@ -10,7 +10,7 @@ fn sent(outcome: Result<Sent, PairFault>, frame: Vec<u8>) -> Reply {
     match outcome {
         Ok(Sent::Held) => Reply::Held,
         Ok(Sent::Written) => Reply::Frame(frame),
-        Err(fault) => Reply::Refused(fault.refusal()),
+        Err(fault) => Reply::Refused(fault.into()),
     }
 }
 
@@ -19,7 +19,7 @@ fn taken(outcome: Result<Taken, PairFault>, words: Vec<u16>) -> Reply {
     match outcome {
         Ok(Taken::Early) => Reply::Early,
         Ok(Taken::Given(report)) => Reply::Pair(words, report),
-        Err(fault) => Reply::Refused(fault.refusal()),
+        Err(fault) => Reply::Refused(fault.into()),
     }
 }
 
@@ -73,7 +73,7 @@ pub(crate) fn log(
     let mut buffer = vec![in heap; 0u8; room]?;
     match bench.log_last(circuit, pair, buffer.as_mut_slice()) {
         Some(Ok(length)) => Ok(Reply::Log(length, buffer)),
-        Some(Err(fault)) => Ok(Reply::Refused(fault.refusal())),
+        Some(Err(fault)) => Ok(Reply::Refused(fault.into())),
         None => Ok(Reply::Error),
     }
 }

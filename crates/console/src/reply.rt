@@ -37,7 +37,7 @@ impl fmt::Display for Reply {
             Reply::Refused(refusal) => {
                 let number = refusal.number;
                 let place = refusal.place;
-                let layer = refusal.layer.name();
+                let layer = refusal.layer;
                 write!(f, "refuse {number} {place} {layer}")
             }
             Reply::Word(word) => write!(f, "word {word}"),

@@ -1,17 +1,16 @@
 -- What writing and reading a frame answer, and what the buffer then holds.
-use Rattle.std.specs.Prelude.{◌≡◌, ℕ, ◌<◌, Bool, true, false, cond, ◌&&◌, List, [], ◌∷◌, length, Ok, Err, Result, ◌==◌}
+use Rattle.std.specs.Prelude.{◌≡◌, ℕ, ◌<◌, Bool, true, false, cond, ◌&&◌, List, [], ◌∷◌, length, Result, ◌==◌}
 use Rattle.words.specs.declared.faults.Layer.TheVariants.{Frame}
-use Rattle.words.specs.Answers.{Answer, gives, refuses}
+use Rattle.words.specs.Answers.{Answer, gives, refuses, answered}
 use Rattle.frames.specs.declared.faults.FrameFault.{FrameFault}
-use Rattle.frames.specs.Faults.{number_of, place_of, layer_of}
+use Rattle.frames.specs.Faults.{refusal_of}
 use Rattle.frames.specs.Places.{Holds, sample_bit, range_bit, check_bit, service_bit, spare_bit, lies_at}
 use Rattle.frames.specs.Frame.{Pair, octets_of, bit_at, heard}
 use Rattle.frames.specs.Content.{Listed, listed}
 
 -- A result by what it says to its user, a value by what is shown of it.
 abbrev pub answer : {X Y : Type 0} → (X → Y) → Result X FrameFault → Answer Y
-answer shown (Ok x) = gives (shown x)
-answer shown (Err e) = refuses (number_of e) (place_of e) (layer_of e)
+answer shown r = answered refusal_of shown r
 
 -- Writing a frame: refused by 5 exactly for a buffer of another length, which then stays as it was.
 abbrev pub writing : List ℕ → Answer (Unit {0})

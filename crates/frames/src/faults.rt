@@ -1,6 +1,6 @@
 // Why a frame was refused, and the refusal that a user sees of it.
 ghost use Rattle.std.specs.Prelude.{◌≡◌};
-ghost use Rattle.frames.specs.Faults.{number_of, place_of, layer_of};
+ghost use Rattle.frames.specs.Faults.{refusal_of};
 
 use words::{Layer, Refusal};
 
@@ -15,14 +15,12 @@ pub enum FrameFault {
     Room(usize),
 }
 
-impl FrameFault {
-    /// What the user is told.
-    pub fn refusal(self) -> Refusal
-        ensures number { result.number ≡ number_of self }
-        ensures place { result.place ≡ place_of self }
-        ensures layer { result.layer ≡ layer_of self }
-    {
-        let (number, place) = match self {
+/// What the user is told.
+impl From<FrameFault> for Refusal {
+    ghost from_gives = { λ fault refusal. refusal ≡ refusal_of fault };
+
+    fn from(fault: FrameFault) -> Refusal {
+        let (number, place) = match fault {
             FrameFault::Length(length) => (3, length),
             FrameFault::AllOnes => (4, 0),
             FrameFault::Room(length) => (5, length),

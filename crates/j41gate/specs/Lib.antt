@@ -2,4 +2,3 @@ pub mod Crossing
 pub mod Trial
 pub mod Tally
 pub mod Task
-pub mod Told

@@ -14,7 +14,6 @@ mod gate;
 mod streams;
 mod tally;
 mod task;
-mod told;
 mod trial;
 
 fn asked(rt: &HostRuntime) -> io::Result<Option<Task>> {

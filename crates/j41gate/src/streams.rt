@@ -2,11 +2,11 @@
 // and a live stream is answered as it comes. What is done with each pair is proved elsewhere.
 use crate::crossing::{Direction, cross};
 use crate::tally::Tally;
-use crate::told::RefusedPair;
 use crate::trial::pass;
 use raw::{PAIR_OCTETS, fill, read_pair};
 use std::io;
 use std::io::Write;
+use telling::{RefusedUnit, Unit};
 use words::WordLaw;
 
 // No input has more octets than a `u64` can count.
@@ -27,11 +27,11 @@ pub(crate) fn report<L: WordLaw>(rt: &HostRuntime, law: &L) -> io::Result<()> {
             break;
         }
         let outcome = pass(law, &read_pair(&octets));
-        if let Err(fault) = &outcome
+        if let Err(fault) = outcome
             && tally.refused < MOST_TOLD
         {
-            let refusal = fault.refusal();
-            println!(rt; "{}", RefusedPair { pair, refusal })?;
+            let told = RefusedUnit::new(Unit::Pair, pair, fault.into());
+            println!(rt; "{told}")?;
         }
         tally.note(outcome);
     }
@@ -57,8 +57,8 @@ pub(crate) fn cross_all(rt: &HostRuntime, direction: Direction) -> io::Result<u6
         }
         if let Err(fault) = cross(direction, &mut octets) {
             refused += 1;
-            let refusal = fault.refusal();
-            eprintln!(rt; "{}", RefusedPair { pair, refusal })?;
+            let told = RefusedUnit::new(Unit::Pair, pair, fault.into());
+            eprintln!(rt; "{told}")?;
         }
         output.write_all(&octets)?;
     }

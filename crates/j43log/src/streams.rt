@@ -8,7 +8,7 @@ use raw::{PAIR, fill};
 use reception::Report;
 use std::io;
 use std::io::Write;
-use telling::RefusedUnit;
+use telling::{RefusedUnit, Unit};
 use words::Linear;
 
 // What stands after so many frames is not read.
@@ -44,7 +44,8 @@ pub(crate) fn log_all(rt: &HostRuntime) -> io::Result<()> {
         }
         let outcome = receive(&mut receiver, &octets, &mut words);
         if let Some(refusal) = outcome.refused {
-            eprintln!(rt; "{}", RefusedUnit::frame(u64::from(frame), refusal))?;
+            let told = RefusedUnit::new(Unit::Frame, u64::from(frame), refusal);
+            eprintln!(rt; "{told}")?;
         }
         if let Taken::Given(report) = outcome.taken {
             write_lines(&mut output, &report, frame.saturating_sub(FRAMES_AFTER))?;

@@ -8,7 +8,7 @@ use listening::receive;
 use raw::{PAIR, fill};
 use std::io;
 use std::io::Write;
-use telling::RefusedUnit;
+use telling::{RefusedUnit, Unit};
 use words::Linear;
 
 // No input has more octets than a `u64` can count.
@@ -30,7 +30,7 @@ pub(crate) fn receive_all(rt: &HostRuntime) -> io::Result<Counts> {
         }
         let outcome = receive(&mut receiver, &octets, &mut words);
         if let Some(refusal) = outcome.refused {
-            eprintln!(rt; "{}", RefusedUnit::frame(frame, refusal))?;
+            eprintln!(rt; "{}", RefusedUnit::new(Unit::Frame, frame, refusal))?;
         }
         if let Taken::Given(_) = outcome.taken {
             output.write_all(&sound(&words))?;

@@ -53,7 +53,7 @@ pub fn send(
         },
         Err(fault) => Outcome {
             sent: put_silence(sender, frame),
-            refused: Some(fault.refusal()),
+            refused: Some(Refusal::from(fault)),
         },
     }
 }

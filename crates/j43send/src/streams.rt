@@ -9,7 +9,7 @@ use frames::FRAME_OCTETS;
 use raw::{PAIR_OCTETS, fill};
 use std::io;
 use std::io::Write;
-use telling::RefusedUnit;
+use telling::{RefusedUnit, Unit};
 
 // No input has more octets than a `u64` can count.
 const MOST_PAIRS: u64 = u64::MAX / PAIR_OCTETS as u64;
@@ -49,7 +49,7 @@ pub(crate) fn send_all(rt: &HostRuntime) -> io::Result<Counts> {
         }
         let outcome = send(&mut sender, &octets, &mut frame);
         if let Some(refusal) = outcome.refused {
-            eprintln!(rt; "{}", RefusedUnit::pair(pair, refusal))?;
+            eprintln!(rt; "{}", RefusedUnit::new(Unit::Pair, pair, refusal))?;
         }
         if let Sent::Written = outcome.sent {
             output.write_all(&frame)?;

@@ -1,8 +1,9 @@
 -- A log fault by its number, its place and its layer.
-use Rattle.std.specs.Prelude.{ℕ, Ok, Err, Result}
+use Rattle.std.specs.Prelude.{ℕ, Result}
 use Rattle.words.specs.declared.faults.Layer.{Layer}
+use Rattle.words.specs.declared.faults.Refusal.{Refusal}
 use Rattle.words.specs.declared.faults.Layer.TheVariants.{Log}
-use Rattle.words.specs.Answers.{Answer, gives, refuses}
+use Rattle.words.specs.Answers.{Answer, answered}
 use Rattle.linelog.specs.declared.faults.LogFault.{LogFault}
 use Rattle.linelog.specs.declared.faults.LogFault.TheVariants.{Room, Circuit, Pair}
 
@@ -20,7 +21,10 @@ place_of Pair = 1
 abbrev pub layer_of : LogFault → Layer
 layer_of _ = Log
 
+-- What the user is told of it.
+abbrev pub refusal_of : LogFault → Refusal
+refusal_of e = record { number = number_of e; place = place_of e; layer = layer_of e }
+
 -- A result by what it says to its user.
 abbrev pub answer : {X : Type 0} → Result X LogFault → Answer X
-answer (Ok x) = gives x
-answer (Err e) = refuses (number_of e) (place_of e) (layer_of e)
+answer r = answered refusal_of (λ x. x) r

@@ -1,7 +1,7 @@
 // Why a log was refused, and the refusal that a user sees of it.
 // Promise: each fault has the number, the place and the layer that the definitions give it.
 ghost use Rattle.std.specs.Prelude.{◌≡◌};
-ghost use Rattle.linelog.specs.Faults.{number_of, place_of, layer_of};
+ghost use Rattle.linelog.specs.Faults.{refusal_of};
 
 use words::{Layer, Refusal};
 
@@ -16,14 +16,12 @@ pub enum LogFault {
     Pair,
 }
 
-impl LogFault {
-    /// What the user is told.
-    pub fn refusal(self) -> Refusal
-        ensures number { result.number ≡ number_of self }
-        ensures place { result.place ≡ place_of self }
-        ensures layer { result.layer ≡ layer_of self }
-    {
-        let (number, place) = match self {
+/// What the user is told.
+impl From<LogFault> for Refusal {
+    ghost from_gives = { λ fault refusal. refusal ≡ refusal_of fault };
+
+    fn from(fault: LogFault) -> Refusal {
+        let (number, place) = match fault {
             LogFault::Room(octets) => (6, octets),
             LogFault::Circuit => (10, 0),
             LogFault::Pair => (10, 1),

@@ -50,7 +50,7 @@ pub fn receive(
         },
         Err(fault) => Outcome {
             taken: lose(receiver, words),
-            refused: Some(fault.refusal()),
+            refused: Some(Refusal::from(fault)),
         },
     }
 }

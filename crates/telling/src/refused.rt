@@ -1,6 +1,5 @@
 // A pair or a frame that was refused, told in one line.
 ghost use Rattle.std.specs.Prelude.{◌≡◌, Some};
-ghost use Rattle.telling.specs.declared.refused.Unit.TheVariants.{Pair, Frame};
 ghost use Rattle.telling.specs.Told.{unit_name, refused, told};
 
 use std::fmt;
@@ -13,15 +12,15 @@ pub enum Unit {
     Frame,
 }
 
-impl Unit {
-    /// The name by which a user is told of it.
-    pub fn name(self) -> &'static str
-        ensures { result.now ≡ unit_name self }
-    {
-        match self {
+/// Prints the name by which a user is told of it.
+impl fmt::Display for Unit {
+    ghost output = { λ unit. Some (unit_name unit) };
+
+    fn fmt<W: fmt::Write>(&self, f: &mut fmt::Formatter<W>) -> fmt::Result {
+        f.write_str(match self {
             Unit::Pair => "pair",
             Unit::Frame => "frame",
-        }
+        })
     }
 }
 
@@ -34,23 +33,12 @@ pub struct RefusedUnit {
 }
 
 impl RefusedUnit {
-    /// A refused pair.
-    pub fn pair(number: u64, refusal: Refusal) -> RefusedUnit
-        ensures { result ≡ refused Pair number refusal }
+    /// A refused unit and its refusal.
+    pub fn new(unit: Unit, number: u64, refusal: Refusal) -> RefusedUnit
+        ensures { result ≡ refused unit number refusal }
     {
         RefusedUnit {
-            unit: Unit::Pair,
-            number,
-            refusal,
-        }
-    }
-
-    /// A refused frame.
-    pub fn frame(number: u64, refusal: Refusal) -> RefusedUnit
-        ensures { result ≡ refused Frame number refusal }
-    {
-        RefusedUnit {
-            unit: Unit::Frame,
+            unit,
             number,
             refusal,
         }
@@ -61,14 +49,13 @@ impl fmt::Display for RefusedUnit {
     ghost output = { λ u. Some (told u) };
 
     fn fmt<W: fmt::Write>(&self, f: &mut fmt::Formatter<W>) -> fmt::Result {
-        let unit = self.unit.name();
-        let at = self.number;
         let number = self.refusal.number;
         let place = self.refusal.place;
-        let layer = self.refusal.layer.name();
+        let layer = self.refusal.layer;
         write!(
             f,
-            "refusal {unit} {at} number {number} place {place} layer {layer}"
+            "refusal {} {} number {number} place {place} layer {layer}",
+            self.unit, self.number
         )
     }
 }

@@ -1,14 +1,13 @@
 -- The search of a list for its first refusal, step by step; what one call says of one element; and a list written from
 -- another, element by element.
-use Rattle.std.proofs.Common.{◌≡◌, ℕ, zero, suc, ◌+◌, ◌<◌, ◌≤◌, List, [], ◌∷◌, ◌++◌, map, length, get_or, take, drop, set, ℤ, sym, ap, ◌∙◌, arith}
+use Rattle.std.proofs.Common.{◌≡◌, ℕ, zero, suc, ◌+◌, ◌<◌, ◌≤◌, List, [], ◌∷◌, ◌++◌, map, length, get_or, take, drop, set, sym, ap, ◌∙◌, arith}
 use Rattle.std.proofs.lemmas.Bool.Decides.{nat_tests}
 use Rattle.std.proofs.lemmas.Bool.{eq-eqb, ne_eqb, cond-true, cond-false}
 use Rattle.std.proofs.lemmas.List.{drop_more, drop_all, length-map, length-take-le, set_at, map_more, append_assoc, append-nil, take_all}
-use Rattle.words.specs.Meaning.{Meaning, middle}
-use Rattle.words.specs.Answers.{gives, refuses, making, reading}
+use Rattle.words.specs.Answers.{gives, refuses}
 use Rattle.words.specs.declared.faults.Layer.{Layer}
 use Rattle.words.specs.declared.faults.Layer.TheVariants.{Word}
-use Rattle.words.specs.Lists.{first_refused, unmade}
+use Rattle.words.specs.Lists.{first_refused, said}
 
 module _ {X : Type 0} (f : X → ℕ) (xs : List X) (i : ℕ) where
   pub refusal_more : (d : X) → i < length xs → f (get_or xs i d) ≡ 0 → first_refused f i (drop i xs) ≡ first_refused f (i + 1) (drop (i + 1) xs)
@@ -27,18 +26,19 @@ refusal_all f [] i e k d h = absurd (omega arith)
 refusal_all f (x ∷ xs) i e zero d h = grind (arith, nat_tests)
 refusal_all f (x ∷ xs) i e (suc k) d h = refusal_all f xs (i + 1) (let t : first_refused f (i + 1) xs ≡ gives tt = grind (arith, nat_tests) in t) k d (omega arith)
 
-module _ (m : Meaning) where
-  pub made_no : (v : ℤ) (n p : ℕ) (l : Layer) → refuses n p l ≡ making m v → (unmade m v ≡ n) × (0 < n) × (l ≡ Word)
-  made_no v n p l e = grind (arith, nat_tests)
+module _ {A B : Type 0} (f : A → ℕ) (g : A → B) (x : A) where
+  pub said_no : (n p : ℕ) (l : Layer) → refuses n p l ≡ said f g x → (f x ≡ n) × (0 < n) × (l ≡ Word)
+  said_no n p l e = grind (arith, nat_tests)
 
-  pub made_yes : (v : ℤ) (w : ℕ) → gives w ≡ making m v → (unmade m v ≡ 0) × (w ≡ m.word v)
-  made_yes v w e = grind (arith, nat_tests)
+  pub said_yes : (y : B) → gives y ≡ said f g x → (f x ≡ 0) × (y ≡ g x)
+  said_yes y e = grind (arith, nat_tests)
 
-  pub read_no : (w n p : ℕ) (l : Layer) → refuses n p l ≡ reading m w → (m.refusal w ≡ n) × (0 < n) × (l ≡ Word)
-  read_no w n p l e = grind (arith, nat_tests)
-
-  pub read_yes : (w : ℕ) (v : ℤ) → gives v ≡ reading m w → (m.refusal w ≡ 0) × (v ≡ middle m w)
-  read_yes w v e = grind (arith, nat_tests)
+-- where all were tried, none is refused
+pub none_left : {A B : Type 0} (f : A → ℕ) (g : A → B) (xs : List A) (i : ℕ) (x : A) (n p : ℕ) (l : Layer) → first_refused f 0 xs ≡ gives tt → i < length xs → x ≡ get_or xs i x → refuses n p l ≡ said f g x → ⊥
+none_left f g xs i x n p l all h at e =
+    let no = said_no f g x n p l e in
+    let yes = ap f at ∙ refusal_all f xs 0 all i x h in
+    omega arith
 
 -- one element more of a list that is written from another
 pub wrote_more : {X Y : Type 0} (f : X → Y) (xs : List X) (ys zs : List Y) (i : ℕ) (d : X) → i < length xs → i < length zs → ys ≡ map f (take i xs) ++ drop i zs → set ys i (f (get_or xs i d)) ≡ map f (take (i + 1) xs) ++ drop (i + 1) zs

@@ -2,18 +2,22 @@
 use Rattle.std.specs.Prelude.{ℕ, cond, ℤ, Ok, Err, Result, ◌==◌}
 use Rattle.words.specs.declared.faults.WordFault.{WordFault}
 use Rattle.words.specs.declared.faults.Layer.{Layer}
+use Rattle.words.specs.declared.faults.Refusal.{Refusal}
 use Rattle.words.specs.declared.faults.Layer.TheVariants.{Word}
-use Rattle.words.specs.Faults.{number_of, place_of, layer_of}
+use Rattle.words.specs.Faults.{refusal_of}
 use Rattle.words.specs.Meaning.{Meaning, inside, middle}
 
 pub data Answer (X : Type 0) : Type 0 where
   gives : X → Answer X
   refuses : (number place : ℕ) → Layer → Answer X
 
--- A result by what it says to its user.
+-- A result by what it says to its user: the value by what is shown of it, the fault by the refusal that it brings.
+abbrev pub answered : {X Y E : Type 0} → (E → Refusal) → (X → Y) → Result X E → Answer Y
+answered refusal shown (Ok x) = gives (shown x)
+answered refusal shown (Err e) = refuses (refusal e).number (refusal e).place (refusal e).layer
+
 abbrev pub answer : {X : Type 0} → Result X WordFault → Answer X
-answer (Ok x) = gives x
-answer (Err e) = refuses (number_of e) (place_of e) (layer_of e)
+answer r = answered refusal_of (λ x. x) r
 
 -- Making the word of v: refused by 2 exactly where v is none of the law's values.
 abbrev pub making : Meaning → ℤ → Answer ℕ

@@ -3,6 +3,7 @@ use Rattle.std.specs.Prelude.{ℕ, List, codes}
 use Rattle.words.specs.declared.faults.WordFault.{WordFault}
 use Rattle.words.specs.declared.faults.WordFault.TheVariants.{Outside, WordRoom, ValueRoom, TooLong, Parity, NoValue}
 use Rattle.words.specs.declared.faults.Layer.{Layer}
+use Rattle.words.specs.declared.faults.Refusal.{Refusal}
 use Rattle.words.specs.declared.faults.Layer.TheVariants.{Word, Frame, Pair, Log}
 
 abbrev pub layer_name : Layer → List ℕ
@@ -35,3 +36,7 @@ layer_of (ValueRoom p) = Pair
 layer_of (TooLong p) = Word
 layer_of (Parity p) = Word
 layer_of (NoValue p) = Word
+
+-- What the user is told of it.
+abbrev pub refusal_of : WordFault → Refusal
+refusal_of e = record { number = number_of e; place = place_of e; layer = layer_of e }

@@ -1,7 +1,9 @@
 // Why a call on words was refused: the fault itself, and the refusal that a user sees of it (number, place, layer).
 // Every fault of every layer is shown as one `Refusal`; docs/REFUSALS.md lists them all.
-ghost use Rattle.std.specs.Prelude.{◌≡◌};
-ghost use Rattle.words.specs.Faults.{layer_name, number_of, place_of, layer_of};
+ghost use Rattle.std.specs.Prelude.{◌≡◌, Some};
+ghost use Rattle.words.specs.Faults.{layer_name, number_of, place_of, layer_of, refusal_of};
+
+use std::fmt;
 
 /// The layer in which a refusal came about.
 #[derive(Clone, Copy, PartialEq, Eq, Debug)]
@@ -12,17 +14,17 @@ pub enum Layer {
     Log,
 }
 
-impl Layer {
-    /// The name by which a user is told of it.
-    pub fn name(self) -> &'static str
-        ensures { result.now ≡ layer_name self }
-    {
-        match self {
+/// Prints the name by which a user is told of it.
+impl fmt::Display for Layer {
+    ghost output = { λ layer. Some (layer_name layer) };
+
+    fn fmt<W: fmt::Write>(&self, f: &mut fmt::Formatter<W>) -> fmt::Result {
+        f.write_str(match self {
             Layer::Word => "word",
             Layer::Frame => "frame",
             Layer::Pair => "pair",
             Layer::Log => "log",
-        }
+        })
     }
 }
 
@@ -67,14 +69,14 @@ impl WordFault {
             WordFault::NoValue(_) => WordFault::NoValue(i),
         }
     }
+}
 
-    /// What the user is told.
-    pub fn refusal(self) -> Refusal
-        ensures number { result.number ≡ number_of self }
-        ensures place { result.place ≡ place_of self }
-        ensures layer { result.layer ≡ layer_of self }
-    {
-        let (number, place, layer) = match self {
+/// What the user is told.
+impl From<WordFault> for Refusal {
+    ghost from_gives = { λ fault refusal. refusal ≡ refusal_of fault };
+
+    fn from(fault: WordFault) -> Refusal {
+        let (number, place, layer) = match fault {
             WordFault::Outside(place) => (2, place, Layer::Word),
             WordFault::WordRoom(place) => (6, place, Layer::Word),
             WordFault::ValueRoom(place) => (6, place, Layer::Pair),

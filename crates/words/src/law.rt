@@ -1,6 +1,6 @@
 // What a word law is: a meaning, and calls that answer by it. Whoever writes a law shows the cell rule of its meaning,
 // so code that is generic in the law is proved once for all of them.
-ghost use Rattle.std.specs.Prelude.{◌≡◌};
+ghost use Rattle.std.specs.Prelude.{◌≡◌, ℕ};
 ghost use Rattle.words.specs.Meaning.{Meaning, CellRule, Wide};
 ghost use Rattle.words.specs.Answers.{answer, making, reading};
 
@@ -11,11 +11,16 @@ pub trait WordLaw {
     /// The word length in bits.
     const BITS: u32;
 
+    ghost BITS: { ℕ };
+
     ghost meaning: { Self → Meaning };
 
-    /// The word length, for code that is generic in the law.
-    fn word_length(&self) -> u32
-        ensures { result ≡ (meaning self.now).bits };
+    /// The word length in bits, by a law that is at hand.
+    final fn word_length(&self) -> u32
+        ensures { result ≡ (meaning self.now).bits }
+    {
+        Self::BITS
+    }
 
     /// The word of a value; refused exactly for a value outside.
     fn make(&self, value: i32) -> Result<u16, WordFault>
@@ -24,6 +29,8 @@ pub trait WordLaw {
     /// The middle of a word's cell; refused exactly for a word of no value.
     fn read(&self, word: u16) -> Result<i32, WordFault>
         ensures { answer result ≡ reading (meaning self.now) word };
+
+    ghost length: { (s : Self) → BITS ≡ (meaning s).bits };
 
     ghost cells: { (s : Self) → CellRule (meaning s) };
 }

@@ -1,4 +1,5 @@
 // The linear law: the sample itself, in 14 bits of two's complement.
+ghost use Rattle.std.specs.Prelude.{refl};
 ghost use Rattle.words.specs.Linear.{linear};
 ghost use Rattle.words.specs.LinearRule.{linear_rule, linear_wide};
 
@@ -19,13 +20,13 @@ const WORDS: u16 = 16384;
 impl WordLaw for Linear {
     const BITS: u32 = 14;
 
+    ghost BITS = { 14 };
+
     ghost meaning = { λ _. linear };
 
-    ghost cells = { λ _. linear_rule };
+    ghost length = { λ _. refl };
 
-    fn word_length(&self) -> u32 {
-        Self::BITS
-    }
+    ghost cells = { λ _. linear_rule };
 
     fn make(&self, value: i32) -> Result<u16, WordFault> {
         if value < LOWEST || value > HIGHEST {

@@ -1,21 +1,32 @@
 // Companding of lists, one text for every law: values to words, and words to values. The room is measured and every
 // element tried before anything is written, so a refusal leaves the output as it was.
-ghost use Rattle.std.specs.Prelude.{◌≡◌, map, length, is_ok, if◌then◌else◌};
+ghost use Rattle.std.specs.Prelude.{◌≡◌, ℕ, map, length, is_ok, if◌then◌else◌};
 ghost use Rattle.words.specs.Meaning.{middle};
 ghost use Rattle.words.specs.Answers.{answer};
-ghost use Rattle.words.specs.Lists.{unmade, first_refused, making_all, reading_all};
+ghost use Rattle.words.specs.Lists.{Converts, first_refused, making_all, reading_all};
 
 use crate::faults::WordFault;
 use crate::law::WordLaw;
 
-// Refused at the first value that the law has no word for.
-fn try_values<L: WordLaw>(law: &L, values: &[i32]) -> Result<(), WordFault>
-    ensures { answer result ≡ first_refused (unmade (L.WordLaw.meaning law.now)) 0 values.now }
+// Converts each item, or writes nothing and refuses at the first item that is refused.
+fn convert<A: Copy, B: Copy, F: Fn(A) -> Result<B, WordFault>>(
+    one: F,
+    items: &[A],
+    out: &mut [B],
+) -> Result<(), WordFault>
+    requires callable { F.IsAlwaysCallable one }
+    requires room { length out.old ≡ length items.now }
+    ensures answer { (f : A → ℕ) (g : A → B) → Converts (F.post one) f g → answer result ≡ first_refused f 0 items.now }
+    ensures buffer { (f : A → ℕ) (g : A → B) → Converts (F.post one) f g → out.new ≡ (if is_ok result then map g items.now else out.old) }
 {
-    for (i, value) in values.iter().enumerate() {
-        if let Err(fault) = law.make(*value) {
+    for (i, item) in items.iter().enumerate() {
+        if let Err(fault) = one(*item) {
             return Err(fault.at(i));
         }
+    }
+    // All were tried, so none is refused here. By index: nothing can be proved of a slice after `iter_mut().zip(..)`.
+    for (i, item) in items.iter().enumerate() {
+        out[i] = one(*item)?;
     }
     Ok(())
 }
@@ -28,25 +39,7 @@ pub fn compand<L: WordLaw>(law: &L, values: &[i32], words: &mut [u16]) -> Result
     if words.len() != values.len() {
         return Err(WordFault::WordRoom(words.len()));
     }
-    try_values(law, values)?;
-    for (i, value) in values.iter().enumerate() {
-        if let Ok(word) = law.make(*value) {
-            words[i] = word;
-        }
-    }
-    Ok(())
-}
-
-// Refused at the first word that belongs to no value.
-fn try_words<L: WordLaw>(law: &L, words: &[u16]) -> Result<(), WordFault>
-    ensures { answer result ≡ first_refused (L.WordLaw.meaning law.now).refusal 0 words.now }
-{
-    for (i, word) in words.iter().enumerate() {
-        if let Err(fault) = law.read(*word) {
-            return Err(fault.at(i));
-        }
-    }
-    Ok(())
+    convert(|value| law.make(value), values, words)
 }
 
 /// Writes the value of each word.
@@ -57,11 +50,5 @@ pub fn expand<L: WordLaw>(law: &L, words: &[u16], values: &mut [i32]) -> Result<
     if values.len() != words.len() {
         return Err(WordFault::ValueRoom(values.len()));
     }
-    try_words(law, words)?;
-    for (i, word) in words.iter().enumerate() {
-        if let Ok(value) = law.read(*word) {
-            values[i] = value;
-        }
-    }
-    Ok(())
+    convert(|word| law.read(word), words, values)
 }

@@ -1,6 +1,6 @@
 // The basic law of odd samples and the additional law of differences, by their ranges. The bounds on the ranges are part
 // of the types, so neither law has anything to ask.
-ghost use Rattle.std.specs.Prelude.{◌≡◌, ◌+◌, ◌<◌, ◌≤◌, MatchOption};
+ghost use Rattle.std.specs.Prelude.{◌≡◌, refl, ◌+◌, ◌<◌, ◌≤◌, MatchOption};
 ghost use Rattle.words.specs.Signed.{basic, additional};
 ghost use Rattle.words.specs.SignRule.{basic_rule, additional_rule};
 
@@ -36,13 +36,13 @@ impl Basic {
 impl WordLaw for Basic {
     const BITS: u32 = 10;
 
+    ghost BITS = { 10 };
+
     ghost meaning = { λ s. basic s.range };
 
-    ghost cells = { λ s. basic_rule s.range };
+    ghost length = { λ _. refl };
 
-    fn word_length(&self) -> u32 {
-        Self::BITS
-    }
+    ghost cells = { λ s. basic_rule s.range };
 
     fn make(&self, value: i32) -> Result<u16, WordFault> {
         make_signed(BASIC_HALF, self.range, value)
@@ -87,13 +87,13 @@ impl Additional {
 impl WordLaw for Additional {
     const BITS: u32 = 9;
 
+    ghost BITS = { 9 };
+
     ghost meaning = { λ s. additional s.basic_range s.range };
 
-    ghost cells = { λ s. additional_rule s.basic_range s.range };
+    ghost length = { λ _. refl };
 
-    fn word_length(&self) -> u32 {
-        Self::BITS
-    }
+    ghost cells = { λ s. additional_rule s.basic_range s.range };
 
     fn make(&self, value: i32) -> Result<u16, WordFault> {
         make_signed(ADDITIONAL_HALF, self.exponent(), value)

@@ -24,11 +24,10 @@ pub(crate) fn make_signed(half: u32, exponent: u8, value: i32) -> Result<u16, Wo
     requires narrow { exponent ≤ 7 }
     ensures { answer result ≡ making (signed 10 half (2 ^ exponent)) value }
 {
-    let size = magnitude(value);
-    if size >= half * width_of(exponent) {
+    let code = magnitude(value) >> exponent;
+    if code >= half {
         return Err(WordFault::Outside(0));
     }
-    let code = size >> exponent;
     if value >= 0 {
         Ok(code as u16)
     } else {

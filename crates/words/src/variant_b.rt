@@ -1,6 +1,6 @@
 // J.41 variant B: 12 bits, finer steps near zero. A word is a sign, three bits for the segment, seven for the place in it,
 // and a parity bit over the first seven of these eleven.
-ghost use Rattle.std.specs.Prelude.{◌≡◌, ◌+◌, ◌<◌, ◌≤◌};
+ghost use Rattle.std.specs.Prelude.{◌≡◌, refl, ◌+◌, ◌<◌, ◌≤◌};
 ghost use Rattle.words.specs.VariantB.{variant_b, code_of, first_of, step_of, parity};
 ghost use Rattle.words.specs.GateRule.{gate_rule, gate_wide};
 
@@ -77,13 +77,13 @@ fn parity_of(front: u32) -> u32
 impl WordLaw for VariantB {
     const BITS: u32 = 12;
 
+    ghost BITS = { 12 };
+
     ghost meaning = { λ _. variant_b };
 
-    ghost cells = { λ _. gate_rule };
+    ghost length = { λ _. refl };
 
-    fn word_length(&self) -> u32 {
-        Self::BITS
-    }
+    ghost cells = { λ _. gate_rule };
 
     fn make(&self, value: i32) -> Result<u16, WordFault> {
         let size = magnitude(value);

@@ -40,6 +40,6 @@ returns-in-Err c =
       buffer = c.put_silence.ensures.buffer ∙ ap (λ (p : Put). p.frame) same;
       answer = c.put_silence.ensures.answer ∙ ap (λ (p : Put). p.answer) same;
       refused =
-          brought c.refusal.result _ _ _ (putting s frame samples).answer c.refusal.ensures.number c.refusal.ensures.place c.refusal.ensures.layer put.answer
+          brought c.from.result _ (putting s frame samples).answer c.from.ensures put.answer
           ∙ ap (λ xs. refused_by (putting s frame xs).answer) c.read_pair-samples.ensures;
     }

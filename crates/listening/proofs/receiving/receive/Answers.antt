@@ -39,5 +39,5 @@ returns-in-Err c =
       buffer = c.lose.ensures.buffer ∙ ap (λ (t : Took). t.words) same;
       answer = c.lose.ensures.answer ∙ ap (λ (t : Took). t.answer) same;
       refused =
-          brought c.refusal.result _ _ _ (taking linear s words octets).answer c.refusal.ensures.number c.refusal.ensures.place c.refusal.ensures.layer took.answer;
+          brought c.from.result _ (taking linear s words octets).answer c.from.ensures took.answer;
     }

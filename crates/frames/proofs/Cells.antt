@@ -87,15 +87,6 @@ halves_more columns words i c v x h e =
     ∙ half_bits i columns (get_or words i 0) (length columns) c (over_halves columns words i c v) h
     ∙ halves_by columns words i c v (cases_order (half_of c) i)
 
--- one bit more of a word that is read
-pub number_more : (row : ℕ → ℕ) (k w : ℕ) → row k ≤ 1 → (w ≡ number row k) × (w < 2 ^ k) → (2 * w + row k ≡ number row (k + 1)) × (2 * w + row k < 2 ^ (k + 1))
-number_more row k w b (e, h) = (ap (λ v. 2 * v + row k) e ∙ sym (ap (number row) (add-one k)), omega (arith, pow-add 2 k 1))
-
--- a bound on all elements is kept by a write below it
-pub small_after_set : (xs : List ℕ) (i v m : ℕ) → i < length xs → v < m → ((k : ℕ) → get_or xs k 0 < m) → (k : ℕ) → get_or (set xs i v) k 0 < m
-small_after_set xs i v m h s each k =
-    subst (λ (x : ℕ). x < m) (sym (cell_after_set xs i v k h)) (cond_both (eqb k i) v (get_or xs k 0) (λ x. x < m) (λ _. s) (λ _. each k))
-
 -- cells that hold the bits of a row, and beyond them get_or answers 0
 small_by : (row : ℕ → ℕ) → Bits row → (cells : List ℕ) (c : ℕ) → length cells ≡ 632 → ((c : ℕ) → c < 632 → get_or cells c 0 ≡ row (bit_of_cell c)) → (c < 632) ⊎ (632 ≤ c) → get_or cells c 0 ≤ 1
 small_by row b cells c long e (inl h) = omega (arith, e c h, b (bit_of_cell c))
@@ -120,9 +111,3 @@ row_of_cells row cells e i h s =
 -- bit 80 of each group is 0
 pub spare_cell : (cells : List ℕ) (i : ℕ) → 79 ≤ i % 80 → bit_of cells i ≡ 0
 spare_cell cells i h = cond-true (eqb (i % 80) 79) 0 (get_or cells (79 * (i / 80) + i % 80) 0) (eq-eqb _ _ (omega arith))
-
--- the cells of an octet, but for its last bit
-pub cell_of_octet : (cells : List ℕ) (j t : ℕ) → t < 7 → get_or cells (8 * j - j / 10 + t) 0 ≡ bit_of cells (8 * j + t)
-cell_of_octet cells j t h =
-    let e : 79 * ((8 * j + t) / 80) + (8 * j + t) % 80 ≡ 8 * j - j / 10 + t = omega arith in
-    sym (cond-false (eqb ((8 * j + t) % 80) 79) 0 (get_or cells (79 * ((8 * j + t) / 80) + (8 * j + t) % 80) 0) (ne_eqb _ _ (omega arith)) ∙ ap (λ i. get_or cells i 0) e)

@@ -85,14 +85,3 @@ three_frames_decide f g N e = record {
   check_words = λ block i. ap (λ o. (heard o).checks block) (e N (omega arith) (omega arith));
 }
 
--- a pair heard from its three frames: the weaving is undone by the same weaving
-gathered : (frames : ℕ → List ℕ) (N block n d : ℕ) → (d ≡ 1) ⊎ (d ≡ 2) → (heard (frames (N + d))).word block n ≡ cond (eqb d 1) ((heard (frames (N + 1))).word block n) ((heard (frames (N + 2))).word block n)
-gathered frames N block n d (inl e) = subst (λ (d : ℕ). (heard (frames (N + d))).word block n ≡ cond (eqb d 1) ((heard (frames (N + 1))).word block n) ((heard (frames (N + 2))).word block n)) (sym e) refl
-gathered frames N block n d (inr e) = subst (λ (d : ℕ). (heard (frames (N + d))).word block n ≡ cond (eqb d 1) ((heard (frames (N + 1))).word block n) ((heard (frames (N + 2))).word block n)) (sym e) refl
-
-pub heard_woven : (frames : ℕ → List ℕ) (N : ℕ) → SamePair (heard_pair frames N) (woven (heard (frames N)) (heard (frames (N + 1))) (heard (frames (N + 2))))
-heard_woven frames N = record {
-  words = λ block n i s. gathered frames N block n (delay block n) (delays block n);
-  range_word = refl;
-  check_words = λ block i. refl;
-}

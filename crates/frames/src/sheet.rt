@@ -8,6 +8,7 @@ ghost use Rattle.frames.specs.Content.{pair_in, listed};
 ghost use Rattle.frames.specs.Sheet.{bit_of, start_of, half_of, offset_in, over, word_at};
 
 use crate::content::{Frame, GuardedBlock};
+use crate::line::FRAME_OCTETS;
 use crate::letters::{FIRST_CHECKS, GROUP_CELLS, Letter, Letters, RANGES, Run, SECOND_CHECKS};
 use blocks::{EvenWords, HALF, OddWords};
 use std::array;
@@ -33,9 +34,8 @@ pub(crate) struct Sheet {
 
 // Bit i of a frame's octets.
 #[tactic(auto, using(std::proofs::lemmas::Nat::and_mask), unfolding(crate::specs::Frame::bit_at))]
-fn bit_at(octets: &[u8], i: usize) -> u8
-    requires whole { length octets.now ≡ 80 }
-    requires inside { i < 640 }
+fn bit_at(octets: &[u8; FRAME_OCTETS], i: usize) -> u8
+    requires { i < 640 }
     ensures value { result ≡ bit_at octets.now i }
     ensures small { result ≤ 1 }
 {
@@ -60,8 +60,7 @@ impl Sheet {
     }
 
     // The sheet of a frame's octets.
-    pub(crate) fn of_octets(octets: &[u8]) -> Sheet
-        requires { length octets.now ≡ 80 }
+    pub(crate) fn of_octets(octets: &[u8; FRAME_OCTETS]) -> Sheet
         ensures { (i : ℕ) → i < 640 → i % 80 < 79 → bit_of result.cells i ≡ bit_at octets.now i }
     {
         // Counted by hand: with `array::from_fn`, or over the cells, each place needs a division, and reading takes twice as long.

@@ -1,10 +1,10 @@
 -- What a frame's octets carry is what they were made of; undamaged frames read back as the pairs that were sent.
-use Rattle.std.proofs.Common.{◌≡◌, ℕ, ◌+◌, ◌-◌, ◌/◌, ◌%◌, ◌^◌, ◌<◌, ◌≤◌, cond, eqb, ltb, ◌⊎◌, List, sym, refl, ap, ◌∙◌, subst, inl, inr, add-sub_cancel, arith}
+use Rattle.std.proofs.Common.{◌≡◌, ℕ, ◌+◌, ◌-◌, ◌/◌, ◌%◌, ◌^◌, ◌<◌, ◌≤◌, cond, eqb, ltb, ◌⊎◌, sym, ap, ◌∙◌, subst, inl, inr, add-sub_cancel, arith}
 use Rattle.std.proofs.lemmas.Bool.{le-ltb, cond-false}
 use Rattle.guards.specs.Bits.{bit_in}
 use Rattle.guards.specs.Parities.{bits_of}
 use Rattle.frames.specs.Places.{Holds, sample_bit, range_bit, check_bit, service_bit, spare_bit, IsBlock, IsSample, delay, travels, lies, lies_at, index}
-use Rattle.frames.specs.Frame.{Pair, WellCoded, SamePair, carried, octets_of, bit_at, heard, woven, frame_of, blank, before, heard_pair, ReadsBack, ThreeFramesDecide}
+use Rattle.frames.specs.Frame.{Pair, WellCoded, SamePair, carried, octets_of, bit_at, heard, woven, frame_of, blank, before, ReadsBack, ThreeFramesDecide}
 use Rattle.guards.specs.Rows.{number_same}
 use Rattle.frames.proofs.Rows.{number_of_bits, read_back}
 use Rattle.frames.proofs.Turns.{LiesThere, sample_lies, check_lies, range_lies}
@@ -84,4 +84,3 @@ three_frames_decide f g N e = record {
   range_word = ap (λ o. (heard o).ranges) (e N (omega arith) (omega arith));
   check_words = λ block i. ap (λ o. (heard o).checks block) (e N (omega arith) (omega arith));
 }
-

@@ -1,5 +1,5 @@
 -- The tables of the code lay a frame's bits out where the standard says: one computed test over all 632 cells.
-use Rattle.std.proofs.Common.{◌≡◌, ℕ, ◌+◌, ◌<◌, cond, eqb, List, [], ◌∷◌, map, length, get_or, replicate, refl, ap, ◌∙◌, arith}
+use Rattle.std.proofs.Common.{◌≡◌, ℕ, ◌<◌, cond, eqb, List, [], ◌∷◌, map, length, get_or, replicate, refl, ap, ◌∙◌, arith}
 use Rattle.std.specs.List.{range_with_len}
 use lib.ListN.{get_or-replicate}
 use Rattle.std.proofs.lemmas.List.FromFn.{fill_by_all}
@@ -44,14 +44,14 @@ laid_out_right f c h = same_at (laid_out f) (λ c. carried (pair_in f) (lies_at 
 abbrev Written : (ℕ → ℕ → ℕ) → List ℕ → List ℕ → Type 0
 Written step xs ys = (c : ℕ) → c < 632 → get_or ys c 0 ≡ step c (get_or xs c 0)
 
-pub seven_writes : (f : Frame) (A B C D s1 s2 s3 s4 s5 s6 s7 : List ℕ) → A ≡ columns_a → B ≡ columns_b → C ≡ columns_c → D ≡ columns_d
+pub seven_writes : (f : Frame) (A B C D s1 s2 s3 s4 s5 s6 s7 : List ℕ) (k1 k2 : ℕ) → A ≡ columns_a → B ≡ columns_b → C ≡ columns_c → D ≡ columns_d → k1 ≡ f.first.checks → k2 ≡ f.second.checks
     → Written (over_words A f.first.odd.words) (replicate 632 0) s1 → Written (over_words B f.second.even.words) s1 s2
     → Written (over_words C f.first.even.words) s2 s3 → Written (over_words D f.second.odd.words) s3 s4
-    → Written (over 0 range_cells f.ranges) s4 s5 → Written (over 0 check_cells f.first.checks) s5 s6 → Written (over 316 check_cells f.second.checks) s6 s7
+    → Written (over 0 range_cells f.ranges) s4 s5 → Written (over 0 check_cells k1) s5 s6 → Written (over 316 check_cells k2) s6 s7
     → (c : ℕ) → c < 632 → get_or s7 c 0 ≡ carried (pair_in f) (lies_at (bit_of_cell c))
-seven_writes f A B C D s1 s2 s3 s4 s5 s6 s7 eA eB eC eD e1 e2 e3 e4 e5 e6 e7 c h =
-    e7 c h ∙ ap (over 316 check_cells f.second.checks c)
-    (e6 c h ∙ ap (over 0 check_cells f.first.checks c)
+seven_writes f A B C D s1 s2 s3 s4 s5 s6 s7 k1 k2 eA eB eC eD q1 q2 e1 e2 e3 e4 e5 e6 e7 c h =
+    e7 c h ∙ ap (λ k. over 316 check_cells k c (get_or s6 c 0)) q2 ∙ ap (over 316 check_cells f.second.checks c)
+    (e6 c h ∙ ap (λ k. over 0 check_cells k c (get_or s5 c 0)) q1 ∙ ap (over 0 check_cells f.first.checks c)
     (e5 c h ∙ ap (over 0 range_cells f.ranges c)
     (e4 c h ∙ ap (λ t. over_words t f.second.odd.words c (get_or s3 c 0)) eD ∙ ap (over_words columns_d f.second.odd.words c)
     (e3 c h ∙ ap (λ t. over_words t f.first.even.words c (get_or s2 c 0)) eC ∙ ap (over_words columns_c f.first.even.words c)

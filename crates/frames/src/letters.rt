@@ -39,8 +39,8 @@ pub(crate) const SECOND_CHECKS: Run = Run {
     places: &CHECK_CELLS,
 };
 
-// One of the samples A to D, of which each half of a group has a word: where its bits lie in the half, bit 1 first, as many
-// as the law's words have.
+// One of the samples A to D, of which each half of a group has a word: where its bits lie in the half, bit 1 first, a column
+// for each bit of the law's words.
 #[derive(Drop)]
 pub(crate) struct Letter<'a, L: WordLaw> {
     pub(crate) law: L,
@@ -63,7 +63,7 @@ impl<'a, L: WordLaw> Letter<'a, L> {
     }
 }
 
-// The letters of a frame.
+// The four letters.
 #[derive(Drop)]
 pub(crate) struct Letters {
     pub(crate) a: Letter<'static, Basic>,
@@ -73,8 +73,8 @@ pub(crate) struct Letters {
 }
 
 impl Letters {
-    // A letter's samples take two places each in turn, for bits k and k + 5 with k = 1 to 4; then come A5 A10 B5 C5 D5 D10. A law's
-    // word length is the same in all its ranges, so the lowest stand for all.
+    // A, B, C and D take two places each in turn, for bits k and k + 5 with k = 1 to 4; then come A5 A10 B5 C5 D5 D10. A law's
+    // word length is the same in all its ranges, so the lowest, which every law has, stand for all.
     pub(crate) fn new() -> Letters
         ensures a { result.a.columns.now ≡ columns_a }
         ensures b { result.b.columns.now ≡ columns_b }

@@ -8,8 +8,8 @@ ghost use Rattle.frames.specs.Content.{pair_in, listed};
 ghost use Rattle.frames.specs.Sheet.{bit_of, start_of, half_of, offset_in, over, word_at};
 
 use crate::content::{Frame, GuardedBlock};
-use crate::line::FRAME_OCTETS;
 use crate::letters::{FIRST_CHECKS, GROUP_CELLS, Letter, Letters, RANGES, Run, SECOND_CHECKS};
+use crate::line::FRAME_OCTETS;
 use blocks::{EvenWords, HALF, OddWords};
 use std::array;
 use words::WordLaw;
@@ -54,8 +54,8 @@ impl Sheet {
         sheet.write_words(&letters.c, &frame.first.even.words);
         sheet.write_words(&letters.d, &frame.second.odd.words);
         sheet.write_word(&RANGES, frame.ranges);
-        sheet.write_word(&FIRST_CHECKS, frame.first.checks as u16);
-        sheet.write_word(&SECOND_CHECKS, frame.second.checks as u16);
+        sheet.write_word(&FIRST_CHECKS, u16::from(frame.first.checks));
+        sheet.write_word(&SECOND_CHECKS, u16::from(frame.second.checks));
         sheet
     }
 
@@ -91,7 +91,7 @@ impl Sheet {
     {
         let mut word = 0;
         for place in run.places {
-            word = 2 * word + self.cells[run.start + *place] as u16;
+            word = 2 * word + u16::from(self.cells[run.start + *place]);
         }
         word
     }

@@ -1,4 +1,4 @@
-use Rattle.std.proofs.Common.{◌*◌, ◌<◌, arith}
+use Rattle.std.proofs.Common.{arith}
 use Rattle.frames.specs.Frame.{bit_at}
 use Rattle.frames.proofs.Rows.{bit_at_bit}
 use Rattle.frames.proofs.Cells.{cells_small}

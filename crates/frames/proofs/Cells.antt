@@ -1,11 +1,11 @@
 -- Cells of a sheet: what one write leaves at each of them, and what the writing of whole words leaves.
-use Rattle.std.proofs.Common.{◌≡◌, ℕ, zero, suc, ◌+◌, ◌-◌, ◌*◌, ◌/◌, ◌%◌, ◌^◌, ◌<◌, ◌≤◌, Bool, true, false, cond, ◌&&◌, eqb, ltb, ◌⊎◌, List, length, get_or, set, sym, refl, ap, ◌∙◌, subst, inl, inr, add-one, arith, get_or-set_other, get_or-set_same}
+use Rattle.std.proofs.Common.{◌≡◌, ℕ, zero, suc, ◌+◌, ◌-◌, ◌*◌, ◌/◌, ◌%◌, ◌^◌, ◌<◌, ◌≤◌, Bool, true, false, cond, ◌&&◌, eqb, ltb, ◌⊎◌, List, length, get_or, set, replicate, sym, refl, ap, ◌∙◌, inl, inr, add-one, arith, get_or-set_other, get_or-set_same}
 use lib.Bits.{bit_and}
-use Rattle.std.proofs.lemmas.Nat.{and_mask, pow-add}
+use Rattle.std.proofs.lemmas.Nat.{and_mask}
 use Rattle.std.proofs.lemmas.List.{get_or_past}
-use Rattle.std.proofs.lemmas.Bool.{cases_eq, cases_lt, cases_order, cond-true, cond-false, cond_both, eq-eqb, ne_eqb, eqb-true, eqb-false, lt-ltb, le-ltb}
-use Rattle.guards.specs.Bits.{number, bit_in}
-use Rattle.frames.specs.Sheet.{bit_of, bit_of_cell, start_of, half_of, offset_in, over}
+use Rattle.std.proofs.lemmas.Bool.{cases_eq, cases_lt, cases_order, cond-true, cond-false, eq-eqb, ne_eqb, eqb-true, eqb-false, lt-ltb, le-ltb}
+use Rattle.guards.specs.Bits.{bit_in}
+use Rattle.frames.specs.Sheet.{bit_of, bit_of_cell, start_of, half_of, offset_in, over_bits, over}
 use Rattle.guards.specs.Rows.{Bits}
 
 set_by : (xs : List ℕ) (i v c : ℕ) → i < length xs → (c ≡ i) ⊎ (c ≡ i → ⊥) → get_or (set xs i v) c 0 ≡ cond (eqb c i) v (get_or xs c 0)
@@ -20,13 +20,13 @@ pub bit_by_shift : (n w k : ℕ) → bit_and (w / 2 ^ (n - 1 - k)) 1 ≡ bit_in 
 bit_by_shift n w k = let e : n - 1 - k ≡ n - (k + 1) = omega arith in and_mask (w / 2 ^ (n - 1 - k)) 1 ∙ ap (λ j. w / 2 ^ j % 2) e
 
 -- one bit more of a word
-pub over_more : (xs : List ℕ) (start : ℕ) (places : List ℕ) (n w k c v : ℕ) → start + get_or places k 0 < length xs → get_or xs c 0 ≡ over start places n w k c v
-    → get_or (set xs (start + get_or places k 0) (bit_and (w / 2 ^ (n - 1 - k)) 1)) c 0 ≡ over start places n w (k + 1) c v
-over_more xs start places n w k c v h e =
-    cell_after_set xs (start + get_or places k 0) (bit_and (w / 2 ^ (n - 1 - k)) 1) c h
-    ∙ ap (λ b. cond (eqb c (start + get_or places k 0)) b (get_or xs c 0)) (bit_by_shift n w k)
-    ∙ ap (cond (eqb c (start + get_or places k 0)) (bit_in n w (k + 1))) e
-    ∙ sym (ap (λ j. over start places n w j c v) (add-one k))
+pub over_more : (xs : List ℕ) (start : ℕ) (places : List ℕ) (w k c v : ℕ) → start + get_or places k 0 < length xs → get_or xs c 0 ≡ over_bits start places w k c v
+    → get_or (set xs (start + get_or places k 0) (bit_and (w / 2 ^ (length places - 1 - k)) 1)) c 0 ≡ over_bits start places w (k + 1) c v
+over_more xs start places w k c v h e =
+    cell_after_set xs (start + get_or places k 0) (bit_and (w / 2 ^ (length places - 1 - k)) 1) c h
+    ∙ ap (λ b. cond (eqb c (start + get_or places k 0)) b (get_or xs c 0)) (bit_by_shift (length places) w k)
+    ∙ ap (cond (eqb c (start + get_or places k 0)) (bit_in (length places) w (k + 1))) e
+    ∙ sym (ap (λ j. over_bits start places w j c v) (add-one k))
 
 -- a place in half i is the cell that lies so far into that half
 module _ (i c p : ℕ) (short : p < 38) where
@@ -54,47 +54,38 @@ either true v = refl
 either false v = refl
 
 -- a word written into half i
-pub over_half : (i : ℕ) (columns : List ℕ) (n w k c v : ℕ) → ((k : ℕ) → get_or columns k 0 < 38)
-    → over (start_of i) columns n w k c v ≡ cond (eqb (half_of c) i) (over 0 columns n w k (offset_in c) v) v
-over_half i columns n w zero c v h = either (eqb (half_of c) i) v
-over_half i columns n w (suc k) c v h =
-    ap (cond (eqb c (start_of i + get_or columns k 0)) (bit_in n w (k + 1))) (over_half i columns n w k c v h)
-    ∙ nested (eqb c (start_of i + get_or columns k 0)) (eqb (half_of c) i) (eqb (offset_in c) (0 + get_or columns k 0)) (bit_in n w (k + 1)) (over 0 columns n w k (offset_in c) v) v
+half_bits : (i : ℕ) (columns : List ℕ) (w k c v : ℕ) → ((k : ℕ) → get_or columns k 0 < 38)
+    → over_bits (start_of i) columns w k c v ≡ cond (eqb (half_of c) i) (over_bits 0 columns w k (offset_in c) v) v
+half_bits i columns w zero c v h = either (eqb (half_of c) i) v
+half_bits i columns w (suc k) c v h =
+    ap (cond (eqb c (start_of i + get_or columns k 0)) (bit_in (length columns) w (k + 1))) (half_bits i columns w k c v h)
+    ∙ nested (eqb c (start_of i + get_or columns k 0)) (eqb (half_of c) i) (eqb (offset_in c) (0 + get_or columns k 0)) (bit_in (length columns) w (k + 1)) (over_bits 0 columns w k (offset_in c) v) v
     (half_test i c (get_or columns k 0) (h k) (eqb (half_of c) i) (eqb (offset_in c) (0 + get_or columns k 0)) refl refl)
 
 -- one half more of a letter's words
-abbrev pub over_halves : List ℕ → ℕ → List ℕ → ℕ → ℕ → ℕ → ℕ
-over_halves columns n words i c v = cond (ltb (half_of c) i) (over 0 columns n (get_or words (half_of c) 0) n (offset_in c) v) v
+abbrev pub over_halves : List ℕ → List ℕ → ℕ → ℕ → ℕ → ℕ
+over_halves columns words i c v = cond (ltb (half_of c) i) (over 0 columns (get_or words (half_of c) 0) (offset_in c) v) v
 
-halves_by : (columns : List ℕ) (n : ℕ) (words : List ℕ) (i c v : ℕ) → (half_of c ≡ i) ⊎ ((half_of c < i) ⊎ (i < half_of c))
-    → cond (eqb (half_of c) i) (over 0 columns n (get_or words i 0) n (offset_in c) (over_halves columns n words i c v)) (over_halves columns n words i c v) ≡ over_halves columns n words (i + 1) c v
-halves_by columns n words i c v (inl e) =
+halves_by : (columns words : List ℕ) (i c v : ℕ) → (half_of c ≡ i) ⊎ ((half_of c < i) ⊎ (i < half_of c))
+    → cond (eqb (half_of c) i) (over 0 columns (get_or words i 0) (offset_in c) (over_halves columns words i c v)) (over_halves columns words i c v) ≡ over_halves columns words (i + 1) c v
+halves_by columns words i c v (inl e) =
     cond-true (eqb (half_of c) i) _ _ (eq-eqb _ _ e)
-    ∙ ap (over 0 columns n (get_or words i 0) n (offset_in c)) (cond-false (ltb (half_of c) i) _ v (le-ltb _ _ (omega arith)))
-    ∙ ap (λ j. over 0 columns n (get_or words j 0) n (offset_in c) v) (sym e)
+    ∙ ap (over 0 columns (get_or words i 0) (offset_in c)) (cond-false (ltb (half_of c) i) _ v (le-ltb _ _ (omega arith)))
+    ∙ ap (λ j. over 0 columns (get_or words j 0) (offset_in c) v) (sym e)
     ∙ sym (cond-true (ltb (half_of c) (i + 1)) _ v (lt-ltb _ _ (omega arith)))
-halves_by columns n words i c v (inr (inl l)) =
+halves_by columns words i c v (inr (inl l)) =
     cond-false (eqb (half_of c) i) _ _ (ne_eqb _ _ (omega arith))
     ∙ cond-true (ltb (half_of c) i) _ v (lt-ltb _ _ l) ∙ sym (cond-true (ltb (half_of c) (i + 1)) _ v (lt-ltb _ _ (omega arith)))
-halves_by columns n words i c v (inr (inr g)) =
+halves_by columns words i c v (inr (inr g)) =
     cond-false (eqb (half_of c) i) _ _ (ne_eqb _ _ (omega arith))
     ∙ cond-false (ltb (half_of c) i) _ v (le-ltb _ _ (omega arith)) ∙ sym (cond-false (ltb (half_of c) (i + 1)) _ v (le-ltb _ _ (omega arith)))
 
-pub halves_more : (columns : List ℕ) (n : ℕ) (words : List ℕ) (i c v x : ℕ) → ((k : ℕ) → get_or columns k 0 < 38) → x ≡ over_halves columns n words i c v
-    → over (start_of i) columns n (get_or words i 0) n c x ≡ over_halves columns n words (i + 1) c v
-halves_more columns n words i c v x h e =
-    ap (over (start_of i) columns n (get_or words i 0) n c) e
-    ∙ over_half i columns n (get_or words i 0) n c (over_halves columns n words i c v) h
-    ∙ halves_by columns n words i c v (cases_order (half_of c) i)
-
--- one bit more of a word that is read
-pub number_more : (row : ℕ → ℕ) (k w : ℕ) → row k ≤ 1 → (w ≡ number row k) × (w < 2 ^ k) → (2 * w + row k ≡ number row (k + 1)) × (2 * w + row k < 2 ^ (k + 1))
-number_more row k w b (e, h) = (ap (λ v. 2 * v + row k) e ∙ sym (ap (number row) (add-one k)), omega (arith, pow-add 2 k 1))
-
--- a bound on all elements is kept by a write below it
-pub small_after_set : (xs : List ℕ) (i v m : ℕ) → i < length xs → v < m → ((k : ℕ) → get_or xs k 0 < m) → (k : ℕ) → get_or (set xs i v) k 0 < m
-small_after_set xs i v m h s each k =
-    subst (λ (x : ℕ). x < m) (sym (cell_after_set xs i v k h)) (cond_both (eqb k i) v (get_or xs k 0) (λ x. x < m) (λ _. s) (λ _. each k))
+pub halves_more : (columns words : List ℕ) (i c v x : ℕ) → ((k : ℕ) → get_or columns k 0 < 38) → x ≡ over_halves columns words i c v
+    → over (start_of i) columns (get_or words i 0) c x ≡ over_halves columns words (i + 1) c v
+halves_more columns words i c v x h e =
+    ap (over (start_of i) columns (get_or words i 0) c) e
+    ∙ half_bits i columns (get_or words i 0) (length columns) c (over_halves columns words i c v) h
+    ∙ halves_by columns words i c v (cases_order (half_of c) i)
 
 -- cells that hold the bits of a row, and beyond them get_or answers 0
 small_by : (row : ℕ → ℕ) → Bits row → (cells : List ℕ) (c : ℕ) → length cells ≡ 632 → ((c : ℕ) → c < 632 → get_or cells c 0 ≡ row (bit_of_cell c)) → (c < 632) ⊎ (632 ≤ c) → get_or cells c 0 ≤ 1
@@ -103,6 +94,12 @@ small_by row b cells c long e (inr h) = omega (arith, get_or_past cells c 0 (ome
 
 pub cells_small : (row : ℕ → ℕ) → Bits row → (cells : List ℕ) → length cells ≡ 632 → ((c : ℕ) → c < 632 → get_or cells c 0 ≡ row (bit_of_cell c)) → (c : ℕ) → get_or cells c 0 ≤ 1
 cells_small row b cells long e c = small_by row b cells c long e (cases_lt c 632)
+
+-- cells that all hold 0
+pub zeros_small : (n c : ℕ) → get_or (replicate n 0) c 0 ≤ 1
+zeros_small zero c = omega arith
+zeros_small (suc n) zero = omega arith
+zeros_small (suc n) (suc c) = zeros_small n c
 
 -- the row that they stand for
 pub row_of_cells : (row : ℕ → ℕ) (cells : List ℕ) → ((c : ℕ) → c < 632 → get_or cells c 0 ≡ row (bit_of_cell c)) → (i : ℕ) → i < 640 → i % 80 < 79 → bit_of cells i ≡ row i
@@ -114,9 +111,3 @@ row_of_cells row cells e i h s =
 -- bit 80 of each group is 0
 pub spare_cell : (cells : List ℕ) (i : ℕ) → 79 ≤ i % 80 → bit_of cells i ≡ 0
 spare_cell cells i h = cond-true (eqb (i % 80) 79) 0 (get_or cells (79 * (i / 80) + i % 80) 0) (eq-eqb _ _ (omega arith))
-
--- the cells of an octet, but for its last bit
-pub cell_of_octet : (cells : List ℕ) (j t : ℕ) → t < 7 → get_or cells (8 * j - j / 10 + t) 0 ≡ bit_of cells (8 * j + t)
-cell_of_octet cells j t h =
-    let e : 79 * ((8 * j + t) / 80) + (8 * j + t) % 80 ≡ 8 * j - j / 10 + t = omega arith in
-    sym (cond-false (eqb ((8 * j + t) % 80) 79) 0 (get_or cells (79 * ((8 * j + t) / 80) + (8 * j + t) % 80) 0) (ne_eqb _ _ (omega arith)) ∙ ap (λ i. get_or cells i 0) e)

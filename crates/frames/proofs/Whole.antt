@@ -1,5 +1,5 @@
 -- A frame is well coded by its types, its octets are 80 and never all ones, and reading them gives it back.
-use Rattle.std.proofs.Common.{◌≡◌, ℕ, zero, suc, ◌+◌, ◌-◌, ◌*◌, ◌/◌, ◌%◌, ◌^◌, ◌<◌, ◌≤◌, true, false, ◌&&◌, eqb, ltb, ◌⊎◌, List, [], ◌∷◌, length, get_or, sym, refl, ap, ◌∙◌, subst, inl, inr, arith}
+use Rattle.std.proofs.Common.{◌≡◌, ℕ, zero, suc, ◌+◌, ◌-◌, ◌*◌, ◌/◌, ◌%◌, ◌^◌, ◌<◌, ◌≤◌, false, eqb, ltb, ◌⊎◌, List, [], ◌∷◌, length, get_or, sym, refl, ap, ◌∙◌, subst, inl, inr, arith}
 use Rattle.std.proofs.lemmas.List.FromFn.{get_or-map-range_with_len, length-map-range_with_len}
 use Rattle.std.proofs.lemmas.Bool.{and_left, and_right, cases_lt, cond-true, cond-false, cond_both, eq-eqb, ne_eqb, lt-ltb, le-ltb}
 use Rattle.words.specs.Answers.{gives}
@@ -35,11 +35,7 @@ well_in f = record {
   check_words = λ block _. cond_both (eqb block 1) f.first.checks f.second.checks (λ w. w < 2 ^ 5) (λ _. f.first.five) (λ _. f.second.five);
 }
 
--- all bits are 1 where each octet is 255
-pub ones_all : (octets : List ℕ) → ((k : ℕ) → k < length octets → get_or octets k 0 ≡ 255) → all_ones octets ≡ true
-ones_all [] e = refl
-ones_all (x ∷ xs) e = ap (λ t. t && all_ones xs) (eq-eqb x 255 (e 0 (omega arith))) ∙ ones_all xs (λ k h. e (suc k) (omega arith))
-
+-- not all bits are 1 where an octet is not 255
 pub ones_not : (octets : List ℕ) (k : ℕ) → k < length octets → (get_or octets k 0 ≡ 255 → ⊥) → all_ones octets ≡ false
 ones_not [] k h ne = absurd (omega arith)
 ones_not (x ∷ xs) zero h ne = and_left (eqb x 255) (all_ones xs) (ne_eqb x 255 ne)

@@ -1,5 +1,6 @@
 -- What writing and reading a frame answer, and what the buffer then holds.
-use Rattle.std.specs.Prelude.{◌≡◌, ℕ, ◌<◌, Bool, true, false, cond, ◌&&◌, List, [], ◌∷◌, length, Result, ◌==◌}
+use Rattle.std.specs.Prelude.{◌≡◌, ℕ, ◌<◌, Bool, true, false, cond, List, length, Result, ◌==◌}
+use Rattle.std.specs.List.{list_all}
 use Rattle.words.specs.declared.faults.Layer.TheVariants.{Frame}
 use Rattle.words.specs.Answers.{Answer, gives, refuses, answered}
 use Rattle.frames.specs.declared.faults.FrameFault.{FrameFault}
@@ -21,8 +22,7 @@ written p buffer = cond (length buffer == 80) (octets_of p) buffer
 
 -- All bits are 1.
 abbrev pub all_ones : List ℕ → Bool
-all_ones [] = true
-all_ones (octet ∷ octets) = octet == 255 && all_ones octets
+all_ones octets = list_all (λ octet. octet == 255) octets
 
 -- Reading a frame: refused by 3 for another length, then by 4 where all bits are 1; any other octets carry what lies in them.
 abbrev pub reading : List ℕ → Answer Listed

@@ -25,6 +25,7 @@ pub struct CodedPair {
 /// What one frame carries: as much as a pair, woven of three. The range word and the checks are those of the frame's own
 /// pair. The odd words of the first block and the even ones of the second are of the pair before it, the other words of the
 /// pair before that one.
+// A type of its own, so that no pair is written unwoven; one struct inside both would only lengthen each use of the fields.
 #[derive(Clone, Copy)]
 pub struct Frame {
     pub ranges: u16,

@@ -5,6 +5,7 @@
 
 mod content;
 mod faults;
+mod letters;
 mod line;
 mod promises;
 mod sheet;

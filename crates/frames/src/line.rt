@@ -17,16 +17,12 @@ pub const FRAME_OCTETS: usize = 80;
 fn all_ones(octets: &[u8]) -> bool
     ensures { result ≡ all_ones octets.now }
 {
-    for octet in octets {
-        if *octet != u8::MAX {
-            return false;
-        }
-    }
-    true
+    octets.iter().all(|octet| *octet == u8::MAX)
 }
 
 impl Frame {
     /// Writes the frame's octets, the first bit highest in the first of them.
+    #[tactic(auto, using(crate::proofs::Whole::reads_itself))]
     pub fn write(&self, octets: &mut [u8]) -> Result<(), FrameFault>
         ensures answer { answer (λ x. x) result ≡ writing octets.old }
         ensures buffer { octets.new ≡ written (pair_in self.now) octets.old }
@@ -44,9 +40,9 @@ impl Frame {
         ensures answer { answer (λ f. listed (pair_in f)) result ≡ reading octets.now }
         ensures again { IfOk result (λ f. Alike (octets_of (pair_in f)) octets.now) }
     {
-        if octets.len() != FRAME_OCTETS {
+        let Ok(octets) = <&[u8; FRAME_OCTETS]>::try_from(octets) else {
             return Err(FrameFault::Length(octets.len()));
-        }
+        };
         if all_ones(octets) {
             return Err(FrameFault::AllOnes);
         }

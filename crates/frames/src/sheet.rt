@@ -1,15 +1,18 @@
-// The sheet on which a frame first stands: a cell, 0 or 1, for each bit but the last of each group. It is then packed into
-// octets. The bits of a word are laid out and collected by one text for words of any law, by the law's word length.
+// The sheet on which a frame first stands: a cell, 0 or 1, for each bit but the last of each group. Words of any law are laid
+// out on it and collected from it by one text, and it is packed into octets.
 ghost use Rattle.std.specs.Prelude.{◌≡◌, ℕ, ◌+◌, ◌*◌, ◌%◌, ◌^◌, ◌<◌, ◌≤◌, length, slice_index};
 ghost use Rattle.guards.specs.Bits.{number};
 ghost use Rattle.frames.specs.Places.{lies_at};
 ghost use Rattle.frames.specs.Frame.{carried, packed, bit_at, heard_by};
 ghost use Rattle.frames.specs.Content.{pair_in, listed};
-ghost use Rattle.frames.specs.Sheet.{bit_of, bit_of_cell, start_of, half_of, offset_in, over};
+ghost use Rattle.frames.specs.Sheet.{bit_of, start_of, half_of, offset_in, over, word_at};
 
 use crate::content::{Frame, GuardedBlock};
+use crate::letters::{FIRST_CHECKS, GROUP_CELLS, Letter, Letters, RANGES, Run, SECOND_CHECKS};
+use crate::line::FRAME_OCTETS;
 use blocks::{EvenWords, HALF, OddWords};
-use words::{Additional, Basic, WordLaw};
+use std::array;
+use words::WordLaw;
 
 // A frame is 8 groups of 80 bits, which are 10 octets.
 const GROUPS: usize = 8;
@@ -20,11 +23,6 @@ const GROUP_OCTETS: usize = 10;
 
 const OCTET_BITS: usize = 8;
 
-// All bits of a group but the last have a cell, and its second half begins after 40 of them.
-const GROUP_CELLS: usize = 79;
-
-const SECOND_HALF: usize = 40;
-
 const CELLS: usize = GROUPS * GROUP_CELLS;
 
 #[derive(Drop)]
@@ -34,170 +32,86 @@ pub(crate) struct Sheet {
     ghost bits: { (c : ℕ) → slice_index cells c ≤ 1 },
 }
 
-// Where the bits of a word lie in half a group, bit 1 first. The samples A, B, C and D take two places each in turn, for
-// bits k and k + 5 with k = 1 to 4; then come A5 A10 B5 C5 D5 D10.
-const COLUMNS_A: [usize; 10] = [0, 8, 16, 24, 32, 1, 9, 17, 25, 33];
-
-const COLUMNS_B: [usize; 9] = [2, 10, 18, 26, 34, 3, 11, 19, 27];
-
-const COLUMNS_C: [usize; 9] = [4, 12, 20, 28, 35, 5, 13, 21, 29];
-
-const COLUMNS_D: [usize; 10] = [6, 14, 22, 30, 36, 7, 15, 23, 31, 37];
-
-// Where R1 to R12 lie: bit 39 of groups 1 to 8, cells 79 l + 38; then bit 79 of groups 2, 4, 6 and 8, cells 79 l + 78.
-const RANGE_CELLS: [usize; 12] = [38, 117, 196, 275, 354, 433, 512, 591, 157, 315, 473, 631];
-
-// Where C1 to C5 of the first block lie: bits 40 and 79 of group 1, bits 40 and 79 of group 3, bit 40 of group 4.
-const CHECK_CELLS: [usize; 5] = [39, 78, 197, 236, 276];
-
-// Those of the second block lie four groups on.
-const SECOND_CHECKS: usize = 4 * GROUP_CELLS;
-
-// Writes a word of so many bits, bit 1 first, into the cells at the given places from `start` on.
-fn write_bits(cells: &mut [u8], start: usize, places: &[usize], bits: usize, word: u16)
-    requires sized { length places.now ≡ bits }
-    requires few { bits ≤ 16 }
-    requires inside { (k : ℕ) → start + slice_index places.now k < length cells.old }
-    ensures { (c : ℕ) → c < length cells.old → slice_index cells.new c ≡ over start places.now bits word bits c (slice_index cells.old c) }
-{
-    for (k, place) in places.iter().enumerate() {
-        cells[start + *place] = (word >> (bits - 1 - k) & 1) as u8;
-    }
-}
-
-// Reads such a word.
-fn read_bits(cells: &[u8], start: usize, places: &[usize], bits: usize) -> u16
-    requires sized { length places.now ≡ bits }
-    requires few { bits ≤ 16 }
-    requires inside { (k : ℕ) → start + slice_index places.now k < length cells.now }
-    requires binary { (c : ℕ) → slice_index cells.now c ≤ 1 }
-    ensures value { result ≡ number (λ k. slice_index cells.now (start + slice_index places.now k)) bits }
-    ensures small { result < 2 ^ bits }
-{
-    let mut word = 0;
-    for k in 0..bits {
-        word = 2 * word + cells[start + places[k]] as u16;
-    }
-    word
-}
-
-// The first cell of half a group, the halves counted over the whole sheet.
-fn half_start(i: usize) -> usize
-    requires { i < 16 }
-    ensures { result ≡ start_of i }
-{
-    GROUP_CELLS * (i / 2) + SECOND_HALF * (i % 2)
-}
-
-// Writes the sixteen words of one of the samples A to D, one into each half of a group.
-fn write_words<L: WordLaw>(cells: &mut [u8], law: &L, columns: &[usize], words: &[u16; HALF])
-    requires whole { length cells.old ≡ 632 }
-    requires sized { length columns.now ≡ (L.WordLaw.meaning law.now).bits }
-    requires inside { (k : ℕ) → slice_index columns.now k < 38 }
-    requires all { length words.now ≡ 16 }
-    ensures { (c : ℕ) → c < 632 → slice_index cells.new c ≡ over 0 columns.now (L.WordLaw.meaning law.now).bits (slice_index words.now (half_of c)) (L.WordLaw.meaning law.now).bits (offset_in c) (slice_index cells.old c) }
-{
-    let bits = law.word_length() as usize;
-    for (i, word) in words.iter().enumerate() {
-        write_bits(cells, half_start(i), columns, bits, *word);
-    }
-}
-
-// Reads such words.
-fn read_words<L: WordLaw>(cells: &[u8], law: &L, columns: &[usize]) -> [u16; HALF]
-    requires whole { length cells.now ≡ 632 }
-    requires sized { length columns.now ≡ (L.WordLaw.meaning law.now).bits }
-    requires inside { (k : ℕ) → slice_index columns.now k < 38 }
-    requires binary { (c : ℕ) → slice_index cells.now c ≤ 1 }
-    ensures all { length result ≡ 16 }
-    ensures value { (i : ℕ) → i < 16 → slice_index result i ≡ number (λ k. slice_index cells.now (start_of i + slice_index columns.now k)) (L.WordLaw.meaning law.now).bits }
-    ensures small { (i : ℕ) → slice_index result i < 2 ^ (L.WordLaw.meaning law.now).bits }
-{
-    let bits = law.word_length() as usize;
-    let mut words = [0; HALF];
-    for i in 0..HALF {
-        words[i] = read_bits(cells, half_start(i), columns, bits);
-    }
-    words
-}
-
-// The laws of odd and even words. A law's word length is the same in all its ranges, so the lowest stand for all.
-fn word_laws() -> (Basic, Additional) {
-    (Basic::new(0).unwrap(), Additional::new(0, 0).unwrap())
-}
-
-// The cells of what a frame carries. The cells of service bits stay 0.
-fn laid_out(frame: &Frame) -> [u8; CELLS]
-    ensures all { length result ≡ 632 }
-    ensures value { (c : ℕ) → c < 632 → slice_index result c ≡ carried (pair_in frame.now) (lies_at (bit_of_cell c)) }
-{
-    let (odd, even) = word_laws();
-    let mut cells = [0; CELLS];
-    write_words(&mut cells, &odd, &COLUMNS_A, &frame.first.odd.words);
-    write_words(&mut cells, &even, &COLUMNS_B, &frame.second.even.words);
-    write_words(&mut cells, &even, &COLUMNS_C, &frame.first.even.words);
-    write_words(&mut cells, &odd, &COLUMNS_D, &frame.second.odd.words);
-    write_bits(&mut cells, 0, &RANGE_CELLS, RANGE_CELLS.len(), frame.ranges);
-    write_bits(
-        &mut cells,
-        0,
-        &CHECK_CELLS,
-        CHECK_CELLS.len(),
-        frame.first.checks as u16,
-    );
-    write_bits(
-        &mut cells,
-        SECOND_CHECKS,
-        &CHECK_CELLS,
-        CHECK_CELLS.len(),
-        frame.second.checks as u16,
-    );
-    cells
-}
-
 // Bit i of a frame's octets.
-fn bit_at(octets: &[u8], i: usize) -> u8
-    requires whole { length octets.now ≡ 80 }
-    requires inside { i < 640 }
+#[tactic(auto, using(std::proofs::lemmas::Nat::and_mask), unfolding(crate::specs::Frame::bit_at))]
+fn bit_at(octets: &[u8; FRAME_OCTETS], i: usize) -> u8
+    requires { i < 640 }
     ensures value { result ≡ bit_at octets.now i }
     ensures small { result ≤ 1 }
 {
     octets[i / OCTET_BITS] >> (OCTET_BITS - 1 - i % OCTET_BITS) & 1
 }
 
-// The cells of a frame's octets.
-fn unpacked(octets: &[u8]) -> [u8; CELLS]
-    requires { length octets.now ≡ 80 }
-    ensures all { length result ≡ 632 }
-    ensures value { (c : ℕ) → c < 632 → slice_index result c ≡ bit_at octets.now (bit_of_cell c) }
-{
-    let mut cells = [0; CELLS];
-    for l in 0..GROUPS {
-        for b in 0..GROUP_CELLS {
-            cells[GROUP_CELLS * l + b] = bit_at(octets, GROUP_BITS * l + b);
-        }
-    }
-    cells
-}
-
 impl Sheet {
-    // The sheet of what a frame carries.
+    // The sheet of what a frame carries. The cells of service bits stay 0.
     pub(crate) fn of_frame(frame: &Frame) -> Sheet
         ensures { (i : ℕ) → i < 640 → bit_of result.cells i ≡ carried (pair_in frame.now) (lies_at i) }
     {
-        Sheet {
-            cells: laid_out(frame),
-        }
+        let letters = Letters::new();
+        let mut sheet = Sheet { cells: [0; CELLS] };
+        sheet.write_words(&letters.a, &frame.first.odd.words);
+        sheet.write_words(&letters.b, &frame.second.even.words);
+        sheet.write_words(&letters.c, &frame.first.even.words);
+        sheet.write_words(&letters.d, &frame.second.odd.words);
+        sheet.write_word(&RANGES, frame.ranges);
+        sheet.write_word(&FIRST_CHECKS, u16::from(frame.first.checks));
+        sheet.write_word(&SECOND_CHECKS, u16::from(frame.second.checks));
+        sheet
     }
 
     // The sheet of a frame's octets.
-    pub(crate) fn of_octets(octets: &[u8]) -> Sheet
-        requires { length octets.now ≡ 80 }
+    pub(crate) fn of_octets(octets: &[u8; FRAME_OCTETS]) -> Sheet
         ensures { (i : ℕ) → i < 640 → i % 80 < 79 → bit_of result.cells i ≡ bit_at octets.now i }
     {
-        Sheet {
-            cells: unpacked(octets),
+        // Counted by hand: with `array::from_fn`, or over the cells, each place needs a division, and reading takes twice as long.
+        let mut cells = [0; CELLS];
+        for l in 0..GROUPS {
+            for b in 0..GROUP_CELLS {
+                cells[GROUP_CELLS * l + b] = bit_at(octets, GROUP_BITS * l + b);
+            }
         }
+        Sheet { cells }
+    }
+
+    // Writes a word into its cells.
+    fn write_word(&mut self, run: &Run, word: u16)
+        ensures { (c : ℕ) → c < 632 → slice_index self.new.cells c ≡ over run.now.start run.now.places.now word c (slice_index self.old.cells c) }
+    {
+        let bits = run.places.len();
+        for (k, place) in run.places.iter().enumerate() {
+            self.cells[run.start + *place] = (word >> (bits - 1 - k) & 1) as u8;
+        }
+    }
+
+    // Reads a word from its cells.
+    #[tactic(auto, unfolding(crate::specs::Sheet::word_at))]
+    fn read_word(&self, run: &Run) -> u16
+        ensures value { result ≡ word_at self.now.cells run.now.start run.now.places.now }
+        ensures small { result < 2 ^ length run.now.places.now }
+    {
+        let mut word = 0;
+        for place in run.places {
+            word = 2 * word + u16::from(self.cells[run.start + *place]);
+        }
+        word
+    }
+
+    // Writes the words of a letter, one into each half of a group.
+    fn write_words<L: WordLaw>(&mut self, letter: &Letter<L>, words: &[u16; HALF])
+        ensures { (c : ℕ) → c < 632 → slice_index self.new.cells c ≡ over 0 letter.now.columns.now (slice_index words.now (half_of c)) (offset_in c) (slice_index self.old.cells c) }
+    {
+        for (i, word) in words.iter().enumerate() {
+            self.write_word(&letter.half(i), *word);
+        }
+    }
+
+    // Reads the words of a letter.
+    fn read_words<L: WordLaw>(&self, letter: &Letter<L>) -> [u16; HALF]
+        ensures all { length result ≡ 16 }
+        ensures value { (i : ℕ) → i < 16 → slice_index result i ≡ word_at self.now.cells (start_of i) letter.now.columns.now }
+        ensures small { (i : ℕ) → slice_index result i < 2 ^ (L.WordLaw.meaning letter.now.law).bits }
+    {
+        array::from_fn(|i| self.read_word(&letter.half(i)))
     }
 
     // Octet j of the frame. The bits before it have a cell each, but for the last ones of whole groups; the last octet of a
@@ -207,16 +121,16 @@ impl Sheet {
         ensures { result ≡ number (λ t. bit_of self.now.cells (8 * j + t)) 8 }
     {
         let first = OCTET_BITS * j - j / GROUP_OCTETS;
+        let last = first + OCTET_BITS - 1;
         let mut octet = 0;
-        for t in 0..OCTET_BITS - 1 {
-            octet = 2 * octet + self.cells[first + t];
+        for cell in &self.cells[first..last] {
+            octet = 2 * octet + *cell;
         }
-        let last = if j % GROUP_OCTETS == GROUP_OCTETS - 1 {
-            0
+        if j % GROUP_OCTETS == GROUP_OCTETS - 1 {
+            2 * octet
         } else {
-            self.cells[first + OCTET_BITS - 1]
-        };
-        2 * octet + last
+            2 * octet + self.cells[last]
+        }
     }
 
     // Packs the sheet into the octets of a frame.
@@ -233,30 +147,27 @@ impl Sheet {
     pub(crate) fn read(&self) -> Frame
         ensures { listed (pair_in result) ≡ listed (heard_by (bit_of self.now.cells)) }
     {
-        let (odd, even) = word_laws();
-        let first = GuardedBlock {
-            odd: OddWords {
-                words: read_words(&self.cells, &odd, &COLUMNS_A),
-            },
-            even: EvenWords {
-                words: read_words(&self.cells, &even, &COLUMNS_C),
-            },
-            checks: read_bits(&self.cells, 0, &CHECK_CELLS, CHECK_CELLS.len()) as u8,
-        };
-        let second = GuardedBlock {
-            odd: OddWords {
-                words: read_words(&self.cells, &odd, &COLUMNS_D),
-            },
-            even: EvenWords {
-                words: read_words(&self.cells, &even, &COLUMNS_B),
-            },
-            checks: read_bits(&self.cells, SECOND_CHECKS, &CHECK_CELLS, CHECK_CELLS.len()) as u8,
-        };
-        let ranges = read_bits(&self.cells, 0, &RANGE_CELLS, RANGE_CELLS.len());
+        let letters = Letters::new();
         Frame {
-            ranges,
-            first,
-            second,
+            ranges: self.read_word(&RANGES),
+            first: GuardedBlock {
+                odd: OddWords {
+                    words: self.read_words(&letters.a),
+                },
+                even: EvenWords {
+                    words: self.read_words(&letters.c),
+                },
+                checks: self.read_word(&FIRST_CHECKS) as u8,
+            },
+            second: GuardedBlock {
+                odd: OddWords {
+                    words: self.read_words(&letters.d),
+                },
+                even: EvenWords {
+                    words: self.read_words(&letters.b),
+                },
+                checks: self.read_word(&SECOND_CHECKS) as u8,
+            },
         }
     }
 }

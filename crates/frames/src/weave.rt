@@ -26,6 +26,18 @@ impl CodedPair {
 }
 
 impl Frame {
+    /// A frame on which all bits are 0, as one that is lost is taken for.
+    pub fn blank() -> Frame
+        ensures { listed (pair_in result) ≡ listed blank }
+    {
+        let pair = CodedPair::blank();
+        Frame {
+            ranges: pair.ranges,
+            first: pair.first,
+            second: pair.second,
+        }
+    }
+
     /// The frame of a pair, with the pairs one and two before it.
     pub fn woven(own: &CodedPair, one: &CodedPair, two: &CodedPair) -> Frame
         ensures value { listed (pair_in result) ≡ listed (woven (coded own.now) (coded one.now) (coded two.now)) }

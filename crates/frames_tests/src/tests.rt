@@ -1,4 +1,4 @@
-// A silent frame, and frames that are refused.
+// A silent frame, a blank one, and frames that are refused.
 use frames::{CodedPair, FRAME_OCTETS, Frame, FrameFault};
 use std::test::Fail;
 
@@ -26,6 +26,14 @@ fn a_silent_frame(rt: HostRuntime) -> Result<(), Fail> {
         return Err(Fail::new("a silent frame is read"))
     };
     assert_eq!(rt; frame.ranges, SILENT_RANGES);
+    Ok(())
+}
+
+#[test]
+fn a_blank_frame(rt: HostRuntime) -> Result<(), Fail> {
+    let mut octets = [7; FRAME_OCTETS];
+    Frame::blank().write(&mut octets)?;
+    assert_eq!(rt; octets, [0; FRAME_OCTETS]);
     Ok(())
 }
 

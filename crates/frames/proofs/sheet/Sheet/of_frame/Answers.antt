@@ -1,24 +1,24 @@
-use Rattle.std.proofs.Common.{◌%◌, sym, ◌∙◌, ⊎_elim}
+use Rattle.std.proofs.Common.{◌%◌, refl, sym, ◌∙◌, ⊎_elim}
 use Rattle.std.proofs.lemmas.Bool.{cases_lt}
 use Rattle.frames.specs.Places.{lies_at}
 use Rattle.frames.specs.Frame.{carried}
 use Rattle.frames.specs.Content.{pair_in}
-use Rattle.frames.proofs.Reading.{carried_bit, spare_carried}
-use Rattle.frames.proofs.Cells.{cells_small, row_of_cells, spare_cell}
+use Rattle.frames.proofs.Reading.{spare_carried}
+use Rattle.frames.proofs.Cells.{zeros_small, row_of_cells, spare_cell}
+use Rattle.frames.proofs.Tables.{seven_writes}
 use Rattle.frames.proofs.sheet.Sheet.of_frame.Goals as goal
 
-pub invariant_of-result : goal.invariant_of-result
-invariant_of-result c =
-    let p = pair_in c.args.frame.now in
-    record {
-      all = c.laid_out.ensures.all;
-      bits = cells_small (λ i. carried p (lies_at i)) (λ i. carried_bit p (lies_at i)) c.laid_out.result c.laid_out.ensures.all c.laid_out.ensures.value;
-    }
+pub invariant_of-sheet : goal.invariant_of-sheet
+invariant_of-sheet c = record { all = refl; bits = zeros_small 632 }
 
 pub returns : goal.returns
-returns c = λ i h.
+returns c =
     let p = pair_in c.args.frame.now in
-    ⊎_elim
-    (λ s. row_of_cells (λ i. carried p (lies_at i)) c.laid_out.result c.laid_out.ensures.value i h s)
-    (λ s. spare_cell c.laid_out.result i s ∙ sym (spare_carried p i s))
-    (cases_lt (i % 80) 79)
+    let cells = c.write_word-3.new.self.cells in
+    let value = seven_writes c.args.frame.now _ _ _ _
+    c.write_words.new.self.cells c.write_words-2.new.self.cells c.write_words-3.new.self.cells c.write_words-4.new.self.cells
+    c.write_word.new.self.cells c.write_word-2.new.self.cells cells _ _
+    c.new-letters.ensures.a c.new-letters.ensures.b c.new-letters.ensures.c c.new-letters.ensures.d c.from.ensures c.from-2.ensures
+    c.write_words.ensures c.write_words-2.ensures c.write_words-3.ensures c.write_words-4.ensures
+    c.write_word.ensures c.write_word-2.ensures c.write_word-3.ensures in
+    λ i h. ⊎_elim (λ s. row_of_cells (λ i. carried p (lies_at i)) cells value i h s) (λ s. spare_cell cells i s ∙ sym (spare_carried p i s)) (cases_lt (i % 80) 79)

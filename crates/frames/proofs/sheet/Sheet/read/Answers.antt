@@ -1,14 +1,14 @@
-use Rattle.std.proofs.lemmas.List.FromFn.{fill_by_all}
-use Rattle.frames.proofs.Tables.{columns_a, columns_b, columns_c, columns_d, collected, read_right}
+use Rattle.frames.proofs.Tables.{read_right}
 use Rattle.frames.proofs.sheet.Sheet.read.Goals as goal
 
 pub returns : goal.returns
 returns c =
-    let cells = c.args.self.now.cells in
-    read_right cells c.read_words.result c.read_words-4.result c.read_words-2.result c.read_words-3.result
-    c.read_bits-ranges.result c.read_bits.result c.read_bits-2.result
-    (fill_by_all (collected cells columns_a 10) c.read_words.result 16 0 c.read_words.ensures.all c.read_words.ensures.value)
-    (fill_by_all (collected cells columns_b 9) c.read_words-4.result 16 0 c.read_words-4.ensures.all c.read_words-4.ensures.value)
-    (fill_by_all (collected cells columns_c 9) c.read_words-2.result 16 0 c.read_words-2.ensures.all c.read_words-2.ensures.value)
-    (fill_by_all (collected cells columns_d 10) c.read_words-3.result 16 0 c.read_words-3.ensures.all c.read_words-3.ensures.value)
-    c.read_bits-ranges.ensures.value c.read_bits.ensures.value c.read_bits-2.ensures.value
+    let l = c.new-letters.ensures in
+    let a = c.read_words.ensures in
+    let b = c.read_words-4.ensures in
+    let c' = c.read_words-2.ensures in
+    let d = c.read_words-3.ensures in
+    read_right c.args.self.now.cells _ _ _ _ c.read_words.result c.read_words-4.result c.read_words-2.result c.read_words-3.result
+    c.read_word.result c.read_word-2.result c.read_word-3.result l.a l.b l.c l.d
+    (a.all, a.value) (b.all, b.value) (c'.all, c'.value) (d.all, d.value)
+    c.read_word.ensures.value c.read_word-2.ensures.value c.read_word-3.ensures.value

@@ -7,3 +7,4 @@ pub mod Given
 pub mod Clearing
 pub mod Middles
 pub mod Nearness
+pub mod Made

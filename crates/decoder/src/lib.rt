@@ -5,10 +5,11 @@
 mod follower;
 mod judged;
 mod judging;
+mod level;
 mod levels;
 mod marks;
 mod received;
-mod steps;
+mod scale;
 mod verdict;
 
 pub use follower::Follower;

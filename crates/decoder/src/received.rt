@@ -1,9 +1,9 @@
 // A received block, and what is given of it: samples and their marks, and what the block before it needs.
 // Promise: each is the defined value, and whatever was sent, sound samples lie near it.
-ghost use Rattle.std.specs.Prelude.{◌≡◌, ℕ, ◌+◌, ◌*◌, ◌/◌, ◌%◌, ◌^◌, ◌<◌, pos, ◌+ℤ◌, slice_index_or};
+ghost use Rattle.std.specs.Prelude.{◌≡◌, ℕ, ◌+◌, ◌^◌, ◌<◌, [], ◌∷◌, pos, ◌+ℤ◌, slice_index_or};
 ghost use Rattle.std.specs.Int.Signed.{mag};
 ghost use Rattle.decoder.specs.Levels.{code_of, level as level_of, mean as mean_of, sample as sample_of};
-ghost use Rattle.decoder.specs.Samples.{follower_of, samples_of};
+ghost use Rattle.decoder.specs.Samples.{follower_of, pair_of, samples_of};
 ghost use Rattle.decoder.specs.Marks.{is_sound, marks_of};
 ghost use Rattle.decoder.specs.Closeness.{StaysNear};
 ghost use Rattle.decoder.specs.Received.{received};
@@ -34,21 +34,6 @@ fn odd_level(word: u16, ranges: Ranges) -> i16
     Scale::odd(ranges).level_of(word).short()
 }
 
-// The sample at place i: an odd sample's is that of its level, an even one's that of its share and the mean of the two beside it.
-fn sample_at(sides: &[Level; SIDES], shares: &[Level; HALF], i: usize) -> i32
-    requires { i < 32 }
-    ensures odd { i % 2 ≡ 0 → result ≡ sample_of (slice_index_or sides.now (i / 2) (pos 0)) }
-    ensures even { i % 2 ≡ 1 → result ≡ sample_of (slice_index_or shares.now (i / 2) (pos 0) +ℤ mean_of (slice_index_or sides.now (i / 2) (pos 0)) (slice_index_or sides.now (i / 2 + 1) (pos 0))) }
-    ensures small { mag result < 2 ^ 13 }
-{
-    let k = i / 2;
-    if i % 2 == 0 {
-        sides[k].sample()
-    } else {
-        shares[k].sample_with(sides[k].mean(sides[k + 1]))
-    }
-}
-
 impl ReceivedBlock {
     /// What the block before this one needs to know of it.
     pub fn follower(&self) -> Follower
@@ -74,7 +59,18 @@ impl ReceivedBlock {
         };
         let sides = self.sides(ranges, next);
         let shares = self.shares(ranges);
-        array::from_fn(|i| sample_at(&sides, &shares, i))
+        let pairs: [[i32; 2]; HALF] = array::from_fn(
+            |k|
+                requires { k < 16 }
+                ensures { result ≡ pair_of sides shares k }
+            {
+                let between = sides[k].mean(sides[k + 1]);
+                [sides[k].sample(), shares[k].sample_with(between)]
+            },
+        );
+        let mut samples = [0; BLOCK];
+        samples.copy_from_slice(pairs.as_flattened());
+        samples
     }
 
     /// Which of them are sound: neither muted nor concealed, nor beside a concealed or a muted sample that they lean on.

@@ -4,4 +4,4 @@ use Rattle.decoder.proofs.Made.{made}
 use Rattle.decoder.proofs.scale.Scale.levels_of.Goals as goal
 
 pub returns : goal.returns
-returns c = made (λ k y. y ≡ level c.args.self.range (code_of c.args.self.half (slice_index c.args.words.now k))) _ _ (λ i y q call. search rules) _ (pos 0) _ c.from_fn.ensures.items
+returns c = made (λ k y. y ≡ level c.args.self.range (code_of c.args.self.half (slice_index c.args.words.now k))) _ _ _ (λ i y q within call. search rules) _ (pos 0) c.from_fn.ensures.items

@@ -8,7 +8,6 @@ use Rattle.decoder.specs.declared.verdict.Verdict.TheVariants.{Mute, Clean, Chec
 use Rattle.decoder.specs.Findings.{odd, pair, between, finding, is_numbered, conceals}
 use Rattle.decoder.specs.Levels.{level, mean}
 use Rattle.decoder.specs.Samples.{Received, code_at, plain, stand_in, odd_level, share}
-use Rattle.decoder.proofs.Places.{written}
 
 -- the numbers of a hurt odd sample and of a hurt pair
 pub record OddNumber (n : ℕ) : Type 0 where
@@ -16,19 +15,14 @@ pub record OddNumber (n : ℕ) : Type 0 where
   pub upto : n ≤ 31
 
 pub odd_number : (v : Verdict) (n : ℕ) → v ≡ Odd n → is_numbered (finding v) ≡ true → OddNumber n
-odd_number v n e t =
-    let p = and_parts (between 1 31 n) (eqb (n % 2) 1) (subst (λ (w : Verdict). is_numbered (finding w) ≡ true) e t) in
-    let q = and_parts (leb 1 n) (leb n 31) p.0 in
-    record { odd = eqb-true (n % 2) 1 p.1; upto = leb-true n 31 q.1 }
+odd_number v n e t = let h : is_numbered (odd n) ≡ true = rw e at t in record { odd = grind (arith, nat_tests); upto = grind (arith, nat_tests) }
 
 pub record PairNumber (j : ℕ) : Type 0 where
   pub from : 1 ≤ j
   pub upto : j ≤ 8
 
 pub pair_number : (v : Verdict) (j : ℕ) → v ≡ Pair j → is_numbered (finding v) ≡ true → PairNumber j
-pair_number v j e t =
-    let p = and_parts (leb 1 j) (leb j 8) (subst (λ (w : Verdict). is_numbered (finding w) ≡ true) e t) in
-    record { from = leb-true 1 j p.0; upto = leb-true j 8 p.1 }
+pair_number v j e t = let h : is_numbered (pair j) ≡ true = rw e at t in record { from = grind (arith, nat_tests); upto = grind (arith, nat_tests) }
 
 -- odd samples are concealed by no verdict but theirs, and even ones by none but a pair's
 pub odd_kept : (v : Verdict) → ((n : ℕ) → v ≡ Odd n → ⊥) → (k : ℕ) → conceals (finding v) (2 * k + 1) ≡ false
@@ -36,8 +30,7 @@ odd_kept (Mute cause) other k = refl
 odd_kept Clean other k = refl
 odd_kept (Check i) other k = refl
 odd_kept (Odd n) other k = absurd (other n refl)
-odd_kept (Pair j) other k =
-    or_from _ _ (ne_eqb (2 * k + 1) (4 * j - 2) (λ e. omega arith)) (ne_eqb (2 * k + 1) (4 * j) (λ e. omega arith))
+odd_kept (Pair j) other k = grind (arith, nat_tests)
 
 -- what stands in for an odd sample leans on odd samples alone
 pub stand_in_same : (f g : ℕ → ℤ) (i : ℕ) → i < 16 → ((k : ℕ) → k < 16 → f (2 * k + 1) ≡ g (2 * k + 1)) → stand_in f (2 * i + 1) ≡ stand_in g (2 * i + 1)

@@ -1,6 +1,5 @@
 pub mod Products
 pub mod Sizes
-pub mod Places
 pub mod Numbers
 pub mod Concealing
 pub mod Given

@@ -40,22 +40,11 @@ moved x x' y y' b b' p q t h =
 
 -- what soundness says of a sample and of its neighbours
 sound_itself : (found : Finding) (follower : Bool) (n : ℕ) → sound found follower n ≡ true → (mutes found ≡ false) × (conceals found n ≡ false)
-sound_itself found follower n t =
-    let p = and_parts (not (mutes found)) _ t in
-    let q = and_parts (not (conceals found n)) _ p.1 in
-    (not-true (mutes found) p.0, not-true (conceals found n) q.0)
+sound_itself found follower n t = (grind (arith, nat_tests), grind (arith, nat_tests))
 
 sound_beside : (found : Finding) (follower : Bool) (n : ℕ) → n % 2 ≡ 0 → sound found follower n ≡ true
     → (conceals found (n - 1) ≡ false) × (cond (eqb n 32) follower (not (conceals found (n + 1))) ≡ true)
-sound_beside found follower n even t =
-    let p = and_parts (not (mutes found)) _ t in
-    let q = and_parts (not (conceals found n)) _ p.1 in
-    let x = not (conceals found (n - 1)) in
-    let y = cond (eqb n 32) follower (not (conceals found (n + 1))) in
-    let both : (x && y) ≡ true = ⊎_elim
-    (λ (o : eqb (n % 2) 1 ≡ true). let z = eqb-true (n % 2) 1 o in absurd (omega arith)) (λ h. h) (or_cases (eqb (n % 2) 1) (x && y) q.1) in
-    let h = and_parts x y both in
-    (not-true (conceals found (n - 1)) h.0, h.1)
+sound_beside found follower n even t = (grind (arith, nat_tests), grind (arith, nat_tests))
 
 sounds : (next : Follower) → is_sound next ≡ true → (l : ℤ) × (next ≡ Sound l)
 sounds Muted t = absurd (false≢true t)
@@ -154,8 +143,8 @@ pub record SoundFirst (b : Received) (l : ℤ) : Type 0 where
   pub is : l ≡ level b.basic (code_at b 1)
 
 one_of_three : (m c : Bool) (x y l : ℤ) → cond m Muted (cond c (Concealed x) (Sound y)) ≡ Sound l → (m ≡ false) × (c ≡ false) × (l ≡ y)
-one_of_three true c x y l e = absurd (let z : ◌≡◌ {A = ℕ} 0 1 = cc in omega arith)
-one_of_three false true x y l e = absurd (let z : ◌≡◌ {A = ℕ} 0 1 = cc in omega arith)
+one_of_three true c x y l e = absurd cc
+one_of_three false true x y l e = absurd cc
 one_of_three false false x y l e = (refl, refl, cc)
 
 pub sound_first : (b : Received) (l : ℤ) → follower_of b ≡ Sound l → SoundFirst b l

@@ -27,13 +27,6 @@ pub mag_abs : (z : ℤ) → mag z ≤ nat_abs z
 mag_abs (pos n) = omega arith
 mag_abs (negsuc n) = omega arith
 
-pub mag_in : (z : ℤ) (h : ℕ) → z <ℤ pos h → negsuc h <ℤ z → mag z < h
-mag_in (pos n) h p q = omega (arith, ints)
-mag_in (negsuc n) h p q = omega (arith, ints)
-
-pub mag_sum : (a b : ℤ) (h k : ℕ) → mag a < h → mag b < k → mag (a +ℤ b) < h + k
-mag_sum a b h k p q = mag_in (a +ℤ b) (h + k) (omega (arith, ints)) (omega (arith, ints))
-
 -- the level of a code as a shift makes it
 pub record Shifted (code : ℤ) (range : ℕ) : Type 0 where
   pub is : to_z w32 (of_z w32 (to_z w32 (of_z w32 (pos 2 *ℤ to_z w32 (of_z w32 code))) +ℤ pos 1) * 2 ^ (range + 1) % 2 ^ 32) ≡ level range code

@@ -21,20 +21,18 @@ muted_samples b next m = sym (ap (λ t. map (λ i. cond t (pos 0) (sample (level
 
 module _ (b : Received) (next : Follower) (heard : mutes b.found ≡ false) (k : ℕ) where
   pub odd_sample : sample_at b next (2 * k + 1) ≡ sample (odd_level b (2 * k + 1))
-  odd_sample = cond-false _ _ _ heard ∙ ap sample (cond-true _ _ _ (is_odd k))
+  odd_sample = grind (arith, nat_tests)
 
   pub even_sample : sample_at b next (2 * k + 2) ≡ sample (share b (2 * k + 2) +ℤ mean (side b next (2 * k + 1)) (side b next (2 * (k + 1) + 1)))
   even_sample =
+      let odd : eqb ((2 * k + 2) % 2) 1 ≡ false = grind (arith, nat_tests) in
       let before : 2 * k + 2 - 1 ≡ 2 * k + 1 = omega arith in
       let after : 2 * k + 2 + 1 ≡ 2 * (k + 1) + 1 = omega arith in
-      cond-false _ _ _ heard
-      ∙ ap sample (cond-false _ _ _ (is_even k)
-      ∙ ap (λ n. share b (2 * k + 2) +ℤ mean (side b next n) (side b next (2 * k + 2 + 1))) before
-      ∙ ap (λ n. share b (2 * k + 2) +ℤ mean (side b next (2 * k + 1)) (side b next n)) after)
+      rw (heard, odd, before, after) refl
 
 -- the side of an odd sample is its level
 pub inner_side : (b : Received) (next : Follower) (k : ℕ) → k < 16 → side b next (2 * k + 1) ≡ odd_level b (2 * k + 1)
-inner_side b next k h = cond-false _ _ _ (ne_eqb (2 * k + 1) 33 (λ e. omega arith))
+inner_side b next k h = grind (arith, nat_tests)
 
 -- the follower's level after sixteen
 pub one_more : (f : ℕ → ℤ) (xs : List ℤ) (y z : ℤ) → length xs ≡ 16 → ((k : ℕ) → k < 16 → get_or xs k (pos 0) ≡ f (2 * k + 1)) → y ≡ z

@@ -84,11 +84,8 @@ module _ (e s : ℕ) (code : ℕ → ℤ) (b : Received) (next : Follower) (w : 
 
   next_counts : (n : ℕ) → n ≤ 32 → cond (eqb n 32) (is_sound next) (not (conceals b.found (n + 1))) ≡ true → Counts (n + 1)
   next_counts n upto t = ⊎_elim
-      (λ (last : n ≡ 32).
-      let m : 33 ≡ n + 1 = omega arith in
-      subst Counts m (follower_counts (sym (cond-true _ _ _ (eq-eqb n 32 last)) ∙ t)))
-      (λ (inner : n ≡ 32 → ⊥).
-      own_counts (n + 1) (omega arith) (omega arith) (not-true _ (sym (cond-false _ _ _ (ne_eqb n 32 inner)) ∙ t)))
+      (λ (last : n ≡ 32). let m : 33 ≡ n + 1 = omega arith in subst Counts m (follower_counts (grind (arith, nat_tests))))
+      (λ (inner : n ≡ 32 → ⊥). own_counts (n + 1) (omega arith) (omega arith) (grind (arith, nat_tests)))
       (cases_eq n 32)
 
   odd_stays : (n : ℕ) → 1 ≤ n → n ≤ 32 → n % 2 ≡ 1 → conceals b.found n ≡ false → distance (level_at b next n) (level_sent r a s code n) ≤ e * reach r a s n

@@ -1,13 +1,11 @@
 -- What is concealed where, and the level that stands in for a concealed one.
-use Rattle.std.proofs.Common.{◌≡◌, ℕ, ◌+◌, ◌-◌, ◌*◌, ◌/◌, ◌%◌, ◌<◌, ◌≤◌, true, false, cond, eqb, leb, ◌≢◌, List, length, get_or, set, ℤ, pos, sym, refl, ap, ◌∙◌, subst, ⊎_elim, arith, length-set}
+use Rattle.std.proofs.Common.{◌≡◌, ℕ, ◌+◌, ◌-◌, ◌*◌, ◌/◌, ◌%◌, ◌<◌, ◌≤◌, true, false, cond, eqb, List, length, get_or, set, ℤ, pos, sym, refl, ap, ◌∙◌, arith}
 use Rattle.std.proofs.lemmas.Bool.Decides.{nat_tests}
 use Rattle.std.proofs.lemmas.Grind.{common_steps}
-use Rattle.std.proofs.lemmas.Bool.{cases_eq, eq-eqb, ne_eqb, eqb-true, leb-true, cond-true, cond-false, and_parts, or_from, or_left, or_right}
 use Rattle.decoder.specs.declared.verdict.Verdict.{Verdict}
 use Rattle.decoder.specs.declared.verdict.Verdict.TheVariants.{Mute, Clean, Check, Odd, Pair}
-use Rattle.decoder.specs.Findings.{odd, pair, between, finding, is_numbered, conceals}
-use Rattle.decoder.specs.Levels.{level, mean}
-use Rattle.decoder.specs.Samples.{Received, code_at, plain, stand_in, odd_level, share}
+use Rattle.decoder.specs.Findings.{odd, pair, finding, is_numbered, conceals}
+use Rattle.decoder.specs.Samples.{Received, plain, stand_in, odd_level}
 
 -- the numbers of a hurt odd sample and of a hurt pair
 pub record OddNumber (n : ℕ) : Type 0 where

@@ -1,7 +1,6 @@
-use Rattle.std.proofs.Common.{◌≡◌, ℕ, ◌+◌, ◌*◌, ◌<◌, get_or, pos, sym, ap, ◌∙◌, subst, arith, rules}
+use Rattle.std.proofs.Common.{◌≡◌, ℕ, ◌+◌, ◌*◌, ◌<◌, get_or, pos, sym, ap, ◌∙◌, arith, rules}
 use Rattle.std.proofs.lemmas.Bool.{cond-false}
 use Rattle.decoder.specs.Findings.{odd, finding}
-use Rattle.decoder.specs.Levels.{code_of, level}
 use Rattle.decoder.specs.Samples.{plain}
 use Rattle.decoder.specs.Received.{received, basic_of}
 use Rattle.decoder.proofs.Numbers.{code_odd}

@@ -1,6 +1,6 @@
-use Rattle.std.proofs.Common.{◌≡◌, length, pos, ap, ◌∙◌, arith, rules}
+use Rattle.std.proofs.Common.{pos, ap, ◌∙◌, arith, rules}
 use Rattle.std.proofs.lemmas.List.{get_or_default}
-use Rattle.decoder.specs.Samples.{odd_level, after, side}
+use Rattle.decoder.specs.Samples.{odd_level, after}
 use Rattle.decoder.specs.Received.{received}
 use Rattle.decoder.proofs.Given.{one_more}
 use Rattle.decoder.proofs.received.ReceivedBlock.sides.Goals as goal

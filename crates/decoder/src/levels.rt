@@ -1,16 +1,15 @@
 // The levels of a received block that is heard: of its odd samples, with a hurt one concealed, of the follower beside them, and
 // what the even samples' own words add. Each is worked out once.
-ghost use Rattle.std.specs.Prelude.{◌≡◌, ℕ, ◌+◌, ◌*◌, ◌/◌, ◌%◌, ◌<◌, ◌≤◌, slice_index_or, pos, Some};
+ghost use Rattle.std.specs.Prelude.{◌≡◌, ℕ, ◌+◌, ◌*◌, ◌/◌, ◌%◌, ◌<◌, ◌≤◌, slice_index_or, pos};
 ghost use Rattle.decoder.specs.Samples.{stand_in, odd_level, side, share};
 ghost use Rattle.decoder.specs.Received.{received};
 
 use crate::follower::Follower;
+use crate::heard::Heard;
 use crate::level::Level;
-use crate::received::ReceivedBlock;
 use crate::scale::Scale;
 use crate::verdict::Verdict;
 use blocks::HALF;
-use guards::ranges::Ranges;
 
 // The odd samples and the follower.
 pub(crate) const SIDES: usize = HALF + 1;
@@ -30,14 +29,13 @@ fn stand_in(levels: &[Level; HALF], i: usize) -> Level
     }
 }
 
-impl ReceivedBlock {
+impl Heard<'_> {
     // The levels of the odd samples, with a hurt one concealed.
-    fn odd_levels(&self, ranges: Ranges) -> [Level; HALF]
-        requires { self.now.judged.ranges ≡ Some ranges }
-        ensures { (k : ℕ) → k < 16 → slice_index_or result k (pos 0) ≡ odd_level (received self.now) (2 * k + 1) }
+    fn odd_levels(&self) -> [Level; HALF]
+        ensures { (k : ℕ) → k < 16 → slice_index_or result k (pos 0) ≡ odd_level (received self.now.block.now) (2 * k + 1) }
     {
-        let mut levels = Scale::odd(ranges).levels_of(&self.odd.words);
-        if let Verdict::Odd(n) = self.judged.verdict {
+        let mut levels = Scale::odd(self.ranges).levels_of(&self.block.odd.words);
+        if let Verdict::Odd(n) = self.block.judged.verdict {
             let i = usize::from(n / 2);
             levels[i] = stand_in(&levels, i);
         }
@@ -45,23 +43,21 @@ impl ReceivedBlock {
     }
 
     // The levels on both sides of the even samples: those of the odd samples, and the follower's.
-    pub(crate) fn sides(&self, ranges: Ranges, next: &Follower) -> [Level; SIDES]
-        requires { self.now.judged.ranges ≡ Some ranges }
-        ensures { (k : ℕ) → k < 17 → slice_index_or result k (pos 0) ≡ side (received self.now) next.now (2 * k + 1) }
+    pub(crate) fn sides(&self, next: &Follower) -> [Level; SIDES]
+        ensures { (k : ℕ) → k < 17 → slice_index_or result k (pos 0) ≡ side (received self.now.block.now) next.now (2 * k + 1) }
     {
-        let levels = self.odd_levels(ranges);
+        let levels = self.odd_levels();
         let mut sides = [next.level_after(levels[HALF - 1]); SIDES];
         sides[..HALF].copy_from_slice(&levels);
         sides
     }
 
     // What the words of the even samples add, nothing where their pair is hurt.
-    pub(crate) fn shares(&self, ranges: Ranges) -> [Level; HALF]
-        requires { self.now.judged.ranges ≡ Some ranges }
-        ensures { (k : ℕ) → k < 16 → slice_index_or result k (pos 0) ≡ share (received self.now) (2 * k + 2) }
+    pub(crate) fn shares(&self) -> [Level; HALF]
+        ensures { (k : ℕ) → k < 16 → slice_index_or result k (pos 0) ≡ share (received self.now.block.now) (2 * k + 2) }
     {
-        let mut shares = Scale::even(ranges).levels_of(&self.even.words);
-        if let Verdict::Pair(j) = self.judged.verdict {
+        let mut shares = Scale::even(self.ranges).levels_of(&self.block.even.words);
+        if let Verdict::Pair(j) = self.block.judged.verdict {
             let j = usize::from(j);
             shares[2 * j - 2] = Level::new(0);
             shares[2 * j - 1] = Level::new(0);

@@ -3,6 +3,7 @@
 #![tactic(auto)]
 
 mod follower;
+mod heard;
 mod judged;
 mod judging;
 mod level;

@@ -9,6 +9,7 @@ ghost use Rattle.decoder.specs.Closeness.{StaysNear};
 ghost use Rattle.decoder.specs.Received.{received};
 
 use crate::follower::Follower;
+use crate::heard::Heard;
 use crate::judged::Judged;
 use crate::level::Level;
 use crate::levels::SIDES;
@@ -57,8 +58,12 @@ impl ReceivedBlock {
         let Some(ranges) = self.judged.audible() else {
             return [0; BLOCK];
         };
-        let sides = self.sides(ranges, next);
-        let shares = self.shares(ranges);
+        let heard = Heard {
+            block: self,
+            ranges,
+        };
+        let sides = heard.sides(next);
+        let shares = heard.shares();
         let pairs: [[i32; 2]; HALF] = array::from_fn(
             |k|
                 requires { k < 16 }

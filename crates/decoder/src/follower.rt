@@ -23,6 +23,7 @@ impl Follower {
     {
         match *self {
             Follower::Muted => own,
+            // Two arms, since a pattern of two variants that binds a signed number gets no proof.
             Follower::Concealed(level) => Level::new(i32::from(level)),
             Follower::Sound(level) => Level::new(i32::from(level)),
         }

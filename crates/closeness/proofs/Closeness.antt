@@ -68,8 +68,8 @@ module _ (r a s : ℕ) (sent : List ℤ) where
 
   odd_level_is : (n : ℕ) → n % 2 ≡ 1 → n ≤ 32 → level_sent r a s (code_sent r a s sent) n ≡ level r (code (2 ^ r) (value sent n))
   odd_level_is n odd upto =
-      let own : cond (eqb n 33) s r ≡ r = cond-false _ _ _ (ne_eqb n 33 (λ q. omega arith)) in
-      cond-true _ _ _ (eq-eqb (n % 2) 1 odd) ∙ ap (level r) (odd_code n odd ∙ ap (λ k. code (2 ^ k) (value sent n)) own)
+      let own : code_sent r a s sent n ≡ code (2 ^ r) (value sent n) = grind (arith, nat_tests) in
+      cond-true _ _ _ (eq-eqb (n % 2) 1 odd) ∙ ap (level r) own
 
   even_level_is : (n : ℕ) → n % 2 ≡ 0 → 1 ≤ n → n ≤ 32 → level_sent r a s (code_sent r a s sent) n
       ≡ level (r + a) (code (2 ^ (r + a + 1)) (difference (value sent (n - 1)) (value sent n) (value sent (n + 1))))

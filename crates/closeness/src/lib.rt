@@ -25,7 +25,7 @@ fn width(range: u8) -> u32
     ensures value { result ≡ 2 ^ range }
     ensures small { result ≤ 64 }
 {
-    1 << range
+    2u32.pow(u32::from(range))
 }
 
 impl Bounds {

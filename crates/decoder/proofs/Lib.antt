@@ -1,9 +1,9 @@
 pub mod Products
 pub mod Sizes
-pub mod Places
 pub mod Numbers
 pub mod Concealing
 pub mod Given
 pub mod Clearing
 pub mod Middles
 pub mod Nearness
+pub mod Made

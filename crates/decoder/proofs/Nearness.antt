@@ -1,9 +1,9 @@
 -- Where a sample is sound, its level is made of codes that count, so it is as near as they are.
-use Rattle.std.proofs.Common.{◌≡◌, ℕ, ◌+◌, ◌-◌, ◌*◌, ◌%◌, ◌^◌, ◌≤◌, Bool, true, false, cond, not, ◌&&◌, eqb, ℤ, pos, ◌+ℤ◌, sym, refl, ap, ◌∙◌, subst, ⊎_elim, mul-add, arith}
+use Rattle.std.proofs.Common.{◌≡◌, ℕ, ◌+◌, ◌-◌, ◌*◌, ◌%◌, ◌^◌, ◌≤◌, Bool, true, false, cond, not, eqb, ℤ, pos, ◌+ℤ◌, sym, refl, ap, ◌∙◌, subst, ⊎_elim, mul-add, arith}
 use Rattle.std.proofs.lemmas.Int.{ints}
 use Rattle.std.proofs.lemmas.Bool.Decides.{nat_tests}
 use Rattle.std.proofs.lemmas.List.FromFn.{get_or-map-range_with_len}
-use Rattle.std.proofs.lemmas.Bool.{and_parts, or_cases, not-true, cond-true, cond-false, cases_eq, eq-eqb, ne_eqb, eqb-true, false≢true}
+use Rattle.std.proofs.lemmas.Bool.{cond-true, cond-false, cases_eq, eq-eqb, ne_eqb, false≢true}
 use Rattle.decoder.specs.declared.follower.Follower.{Follower}
 use Rattle.decoder.specs.declared.follower.Follower.TheVariants.{Muted, Concealed, Sound}
 use Rattle.decoder.specs.Findings.{Finding, mutes, conceals}
@@ -40,22 +40,11 @@ moved x x' y y' b b' p q t h =
 
 -- what soundness says of a sample and of its neighbours
 sound_itself : (found : Finding) (follower : Bool) (n : ℕ) → sound found follower n ≡ true → (mutes found ≡ false) × (conceals found n ≡ false)
-sound_itself found follower n t =
-    let p = and_parts (not (mutes found)) _ t in
-    let q = and_parts (not (conceals found n)) _ p.1 in
-    (not-true (mutes found) p.0, not-true (conceals found n) q.0)
+sound_itself found follower n t = (grind (arith, nat_tests), grind (arith, nat_tests))
 
 sound_beside : (found : Finding) (follower : Bool) (n : ℕ) → n % 2 ≡ 0 → sound found follower n ≡ true
     → (conceals found (n - 1) ≡ false) × (cond (eqb n 32) follower (not (conceals found (n + 1))) ≡ true)
-sound_beside found follower n even t =
-    let p = and_parts (not (mutes found)) _ t in
-    let q = and_parts (not (conceals found n)) _ p.1 in
-    let x = not (conceals found (n - 1)) in
-    let y = cond (eqb n 32) follower (not (conceals found (n + 1))) in
-    let both : (x && y) ≡ true = ⊎_elim
-    (λ (o : eqb (n % 2) 1 ≡ true). let z = eqb-true (n % 2) 1 o in absurd (omega arith)) (λ h. h) (or_cases (eqb (n % 2) 1) (x && y) q.1) in
-    let h = and_parts x y both in
-    (not-true (conceals found (n - 1)) h.0, h.1)
+sound_beside found follower n even t = (grind (arith, nat_tests), grind (arith, nat_tests))
 
 sounds : (next : Follower) → is_sound next ≡ true → (l : ℤ) × (next ≡ Sound l)
 sounds Muted t = absurd (false≢true t)
@@ -95,11 +84,8 @@ module _ (e s : ℕ) (code : ℕ → ℤ) (b : Received) (next : Follower) (w : 
 
   next_counts : (n : ℕ) → n ≤ 32 → cond (eqb n 32) (is_sound next) (not (conceals b.found (n + 1))) ≡ true → Counts (n + 1)
   next_counts n upto t = ⊎_elim
-      (λ (last : n ≡ 32).
-      let m : 33 ≡ n + 1 = omega arith in
-      subst Counts m (follower_counts (sym (cond-true _ _ _ (eq-eqb n 32 last)) ∙ t)))
-      (λ (inner : n ≡ 32 → ⊥).
-      own_counts (n + 1) (omega arith) (omega arith) (not-true _ (sym (cond-false _ _ _ (ne_eqb n 32 inner)) ∙ t)))
+      (λ (last : n ≡ 32). let m : 33 ≡ n + 1 = omega arith in subst Counts m (follower_counts (grind (arith, nat_tests))))
+      (λ (inner : n ≡ 32 → ⊥). own_counts (n + 1) (omega arith) (omega arith) (grind (arith, nat_tests)))
       (cases_eq n 32)
 
   odd_stays : (n : ℕ) → 1 ≤ n → n ≤ 32 → n % 2 ≡ 1 → conceals b.found n ≡ false → distance (level_at b next n) (level_sent r a s code n) ≤ e * reach r a s n
@@ -154,8 +140,8 @@ pub record SoundFirst (b : Received) (l : ℤ) : Type 0 where
   pub is : l ≡ level b.basic (code_at b 1)
 
 one_of_three : (m c : Bool) (x y l : ℤ) → cond m Muted (cond c (Concealed x) (Sound y)) ≡ Sound l → (m ≡ false) × (c ≡ false) × (l ≡ y)
-one_of_three true c x y l e = absurd (let z : ◌≡◌ {A = ℕ} 0 1 = cc in omega arith)
-one_of_three false true x y l e = absurd (let z : ◌≡◌ {A = ℕ} 0 1 = cc in omega arith)
+one_of_three true c x y l e = absurd cc
+one_of_three false true x y l e = absurd cc
 one_of_three false false x y l e = (refl, refl, cc)
 
 pub sound_first : (b : Received) (l : ℤ) → follower_of b ≡ Sound l → SoundFirst b l

@@ -1,5 +1,6 @@
 -- What a verdict says of a block: a word, and for all words but "clean" a number.
-use Rattle.std.specs.Prelude.{ℕ, ◌-◌, ◌*◌, ◌%◌, Bool, true, false, ◌&&◌, ◌||◌, List, codes, ◌==◌, nat_le}
+use Rattle.std.specs.Prelude.{ℕ, ◌-◌, ◌*◌, ◌%◌, Bool, true, false, ◌&&◌, ◌||◌, List, ◌++◌, codes, ◌==◌, nat_le}
+use Rattle.std.specs.Fmt.{decimal}
 use Rattle.decoder.specs.declared.verdict.Cause.{Cause}
 use Rattle.decoder.specs.declared.verdict.Cause.TheVariants.{Lost, RangeWord, NoRanges, Guards}
 use Rattle.decoder.specs.declared.verdict.Verdict.{Verdict}
@@ -40,6 +41,9 @@ number_of clean = 0
 number_of (check i) = i
 number_of (odd n) = n
 number_of (pair j) = j
+
+abbrev pub text_of : Finding → List ℕ
+text_of found = word_of found ++ codes " " ++ decimal (number_of found)
 
 -- Whether a number is one that there is.
 abbrev pub between : ℕ → ℕ → ℕ → Bool

@@ -1,6 +1,6 @@
 -- The levels and samples of a received block. Samples count from 1 to 32, and the follower, the first sample of the next block,
 -- counts as 33.
-use Rattle.std.specs.Prelude.{ℕ, ◌+◌, ◌-◌, ◌%◌, cond, List, map, ℤ, pos, ◌+ℤ◌, ◌==◌}
+use Rattle.std.specs.Prelude.{ℕ, ◌+◌, ◌-◌, ◌%◌, cond, List, [], ◌∷◌, map, slice_index_or, ℤ, pos, ◌+ℤ◌, ◌==◌}
 use Rattle.std.specs.List.{range_with_len}
 use Rattle.guards.specs.Words.{by_sample}
 use Rattle.decoder.specs.declared.follower.Follower.{Follower}
@@ -51,6 +51,11 @@ level_at b next n = cond (n % 2 == 1) (odd_level b n) (share b n +ℤ mean (side
 
 abbrev pub sample_at : Received → Follower → ℕ → ℤ
 sample_at b next n = cond (mutes b.found) (pos 0) (sample (level_at b next n))
+
+-- The samples 2k + 1 and 2k + 2, from the levels on the sides of the even samples and from the shares of these.
+abbrev pub pair_of : List ℤ → List ℤ → ℕ → List ℤ
+pair_of sides shares k =
+    sample (slice_index_or sides k (pos 0)) ∷ sample (slice_index_or shares k (pos 0) +ℤ mean (slice_index_or sides k (pos 0)) (slice_index_or sides (k + 1) (pos 0))) ∷ []
 
 unfoldable pub samples_of : Received → Follower → List ℤ
 samples_of b next = map (λ i. sample_at b next (i + 1)) (range_with_len 0 32)

@@ -1,8 +1,9 @@
 // The follower of a block: the first sample of the next one, as far as sample 32 leans on it.
-ghost use Rattle.std.specs.Prelude.{◌≡◌, ◌^◌, ◌<◌};
-ghost use Rattle.std.specs.Int.Signed.{mag};
+ghost use Rattle.std.specs.Prelude.{◌≡◌};
 ghost use Rattle.decoder.specs.Marks.{is_sound};
 ghost use Rattle.decoder.specs.Samples.{after};
+
+use crate::level::Level;
 
 /// What a block needs to know of the next one: the level of its sample 1, in quarters of a sample unit.
 #[derive(Clone, Copy, PartialEq, Eq, Debug)]
@@ -17,15 +18,14 @@ pub enum Follower {
 
 impl Follower {
     // The level after sample 32: the block's own last one serves twice where the next block is muted.
-    pub(crate) fn level_after(&self, own: i32) -> i32
-        requires { mag own < 2 ^ 17 }
-        ensures value { result ≡ after self.now own }
-        ensures small { mag result < 2 ^ 17 }
+    pub(crate) fn level_after(&self, own: Level) -> Level
+        ensures { result ≡ after self.now own }
     {
         match *self {
             Follower::Muted => own,
-            Follower::Concealed(level) => i32::from(level),
-            Follower::Sound(level) => i32::from(level),
+            // Two arms, since a pattern of two variants that binds a signed number gets no proof.
+            Follower::Concealed(level) => Level::new(i32::from(level)),
+            Follower::Sound(level) => Level::new(i32::from(level)),
         }
     }
 

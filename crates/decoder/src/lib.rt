@@ -3,12 +3,14 @@
 #![tactic(auto)]
 
 mod follower;
+mod heard;
 mod judged;
 mod judging;
+mod level;
 mod levels;
 mod marks;
 mod received;
-mod steps;
+mod scale;
 mod verdict;
 
 pub use follower::Follower;

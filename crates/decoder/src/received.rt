@@ -1,20 +1,23 @@
 // A received block, and what is given of it: samples and their marks, and what the block before it needs.
 // Promise: each is the defined value, and whatever was sent, sound samples lie near it.
-ghost use Rattle.std.specs.Prelude.{◌≡◌, ℕ, ◌+◌, ◌*◌, ◌^◌, ◌<◌, pos, ◌+ℤ◌, slice_index_or};
+ghost use Rattle.std.specs.Prelude.{◌≡◌, ℕ, ◌+◌, ◌^◌, ◌<◌, [], ◌∷◌, pos, ◌+ℤ◌, slice_index_or};
 ghost use Rattle.std.specs.Int.Signed.{mag};
 ghost use Rattle.decoder.specs.Levels.{code_of, level as level_of, mean as mean_of, sample as sample_of};
-ghost use Rattle.decoder.specs.Samples.{follower_of, samples_of};
+ghost use Rattle.decoder.specs.Samples.{follower_of, pair_of, samples_of};
 ghost use Rattle.decoder.specs.Marks.{is_sound, marks_of};
 ghost use Rattle.decoder.specs.Closeness.{StaysNear};
 ghost use Rattle.decoder.specs.Received.{received};
 
 use crate::follower::Follower;
+use crate::heard::Heard;
 use crate::judged::Judged;
+use crate::level::Level;
 use crate::levels::SIDES;
-use crate::steps::{ODD_CODES, even_sample, sample, word_level};
+use crate::scale::Scale;
 use crate::verdict::Verdict;
 use blocks::{BLOCK, EvenWords, HALF, OddWords};
 use guards::ranges::Ranges;
+use std::array;
 
 /// A block as it came over the line: what is found of it, and its words.
 #[derive(Clone, Copy)]
@@ -24,28 +27,12 @@ pub struct ReceivedBlock {
     pub even: EvenWords,
 }
 
-// The level of an odd sample's word. It fits 16 bits.
+// The level of an odd sample's word, as a follower keeps it.
 fn odd_level(word: u16, ranges: Ranges) -> i16
     requires { word < 2 ^ 10 }
     ensures { result ≡ level_of ranges.basic (code_of 512 word) }
 {
-    word_level(word, ODD_CODES, ranges.basic()) as i16
-}
-
-// The samples of all levels: an even sample's is its share and the mean of the two beside it.
-fn mixed(sides: &[i32; SIDES], shares: &[i32; HALF]) -> [i32; BLOCK]
-    requires small_sides { (k : ℕ) → mag (slice_index_or sides.now k (pos 0)) < 2 ^ 17 }
-    requires small_shares { (k : ℕ) → mag (slice_index_or shares.now k (pos 0)) < 2 ^ 17 }
-    ensures odd { (k : ℕ) → k < 16 → slice_index_or result (2 * k) (pos 0) ≡ sample_of (slice_index_or sides.now k (pos 0)) }
-    ensures even { (k : ℕ) → k < 16 → slice_index_or result (2 * k + 1) (pos 0) ≡ sample_of (slice_index_or shares.now k (pos 0) +ℤ mean_of (slice_index_or sides.now k (pos 0)) (slice_index_or sides.now (k + 1) (pos 0))) }
-    ensures small { (k : ℕ) → mag (slice_index_or result k (pos 0)) < 2 ^ 13 }
-{
-    let mut samples = [0; BLOCK];
-    for i in 0..HALF {
-        samples[2 * i] = sample(sides[i]);
-        samples[2 * i + 1] = even_sample(shares[i], sides[i], sides[i + 1]);
-    }
-    samples
+    Scale::odd(ranges).level_of(word).short()
 }
 
 impl ReceivedBlock {
@@ -71,7 +58,24 @@ impl ReceivedBlock {
         let Some(ranges) = self.judged.audible() else {
             return [0; BLOCK];
         };
-        mixed(&self.sides(ranges, next), &self.shares(ranges))
+        let heard = Heard {
+            block: self,
+            ranges,
+        };
+        let sides = heard.sides(next);
+        let shares = heard.shares();
+        let pairs: [[i32; 2]; HALF] = array::from_fn(
+            |k|
+                requires { k < 16 }
+                ensures { result ≡ pair_of sides shares k }
+            {
+                let between = sides[k].mean(sides[k + 1]);
+                [sides[k].sample(), shares[k].sample_with(between)]
+            },
+        );
+        let mut samples = [0; BLOCK];
+        samples.copy_from_slice(pairs.as_flattened());
+        samples
     }
 
     /// Which of them are sound: neither muted nor concealed, nor beside a concealed or a muted sample that they lean on.

@@ -3,6 +3,8 @@
 ghost use Rattle.std.specs.Prelude.{◌≡◌};
 ghost use Rattle.decoder.specs.Findings.{finding, word_of, number_of};
 
+use std::fmt;
+
 /// Why a block is muted, in the order in which the causes are looked for.
 #[derive(Clone, Copy, PartialEq, Eq, Debug)]
 pub enum Cause {
@@ -57,5 +59,16 @@ impl Verdict {
             Verdict::Clean => 0,
             Verdict::Check(number) | Verdict::Odd(number) | Verdict::Pair(number) => number,
         }
+    }
+}
+
+impl fmt::Display for Verdict {
+    ghost use Rattle.std.specs.Prelude.{Some};
+    ghost use Rattle.decoder.specs.Findings.{finding, text_of};
+
+    ghost output = { λ verdict. Some (text_of (finding verdict)) };
+
+    fn fmt<W: fmt::Write>(&self, f: &mut fmt::Formatter<W>) -> fmt::Result {
+        write!(f, "{} {}", self.word(), self.number())
     }
 }

@@ -9,9 +9,7 @@ use std::test::Fail;
 // odd ones, and silence.
 fn loud() -> [i32; 33] {
     let mut samples = [0; 33];
-    for i in 0..5 {
-        samples[i] = 8191;
-    }
+    samples[..5].fill(8191);
     samples[3] = -8192;
     samples[6] = -1;
     samples[8] = -8192;

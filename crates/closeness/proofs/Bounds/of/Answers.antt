@@ -1,5 +1,5 @@
 use Rattle.closeness.proofs.Closeness.{stays_close}
 use Rattle.closeness.proofs.Bounds.of.Goals as goal
 
-pub returns : goal.returns
-returns c = record { odd = cc; even = cc; last = cc; close = stays_close }
+pub returns-clause-close : goal.returns-clause-close
+returns-clause-close c = stays_close

@@ -22,6 +22,7 @@ pub struct PairNumber {
     pub pair: u32,
 }
 
+// Pushed piece by piece: for all that its contract says `write!` may fail, and what would follow from that has no proof.
 type Text = ArrayString<LOG_OCTETS>;
 
 // How many samples of a block are sound.
@@ -74,6 +75,7 @@ fn push_line(text: &mut Text, number: PairNumber, block_number: u8, block: &Bloc
 }
 
 // Both lines of a pair.
+#[tactic(auto, unfolding(crate::specs::Lines::lines))]
 pub(crate) fn lines_of(report: &Report, number: PairNumber) -> Text
     ensures written { result.bytes ≡ lines number.circuit number.pair (report_told report.now) }
     ensures fits { length (lines number.circuit number.pair (report_told report.now)) ≤ 96 }

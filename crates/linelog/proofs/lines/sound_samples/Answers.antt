@@ -1,15 +1,12 @@
-use Rattle.std.proofs.Common.{◌≡◌, ◌∷◌, ◌++◌, ◌+◌, Bool, true, false, List, [], refl, ap, arith, ◌∙◌, rules}
-use Rattle.std.specs.List.{count_by}
-use Rattle.std.proofs.lemmas.Grind.{common_steps}
+use Rattle.std.proofs.Common.{◌≡◌, ◌∷◌, ◌+◌, Bool, true, false, cond, List, refl, rules}
+use Rattle.std.proofs.lemmas.List.Recursion.{is_count_by}
 use Rattle.linelog.specs.Lines.{sound_samples}
 use Rattle.linelog.proofs.lines.sound_samples.Goals as goal
 
-counted : (marks : List Bool) → count_by (λ m. m) marks ≡ sound_samples marks
-counted [] = refl
-counted (true ∷ marks) = grind (arith, common_steps, counted marks)
-counted (false ∷ marks) = counted marks
+counts : (mark : Bool) (marks : List Bool) → sound_samples (mark ∷ marks) ≡ cond mark (1 + sound_samples marks) (sound_samples marks)
+counts true marks = refl
+counts false marks = refl
 
 pub returns : goal.returns
 returns c =
-    let counts : c.count.result ≡ count_by (λ m. m) c.args.block.now.marks = search rules in
-    counts ∙ counted c.args.block.now.marks
+    search (rules, is_count_by sound_samples (λ m. m) refl counts)

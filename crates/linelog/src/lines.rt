@@ -22,7 +22,7 @@ pub struct PairNumber {
     pub pair: u32,
 }
 
-// Pushed piece by piece: for all that its contract says `write!` may fail, and what would follow from that has no proof.
+// Room for both lines. They are pushed, not printed by `write!`: tried, and no contract says that printing answers Ok.
 type Text = ArrayString<LOG_OCTETS>;
 
 // How many samples of a block are sound.

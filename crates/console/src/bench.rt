@@ -1,7 +1,7 @@
 // The circuit that the console drives, whose outlet is chosen at run time, and the last report that it gave.
 use crate::law::{Law, under};
 use circuit::{Circuit, PairFault, Sent, Taken};
-use linelog::{LogFault, log};
+use linelog::{LogFault, PairNumber, log};
 use reception::Report;
 use words::{Linear, VariantB, WordLaw};
 
@@ -101,7 +101,7 @@ impl Bench {
         buffer: &mut [u8],
     ) -> Option<Result<usize, LogFault>> {
         match &self.last {
-            Some(report) => Some(log(report, circuit, pair, buffer)),
+            Some(report) => Some(log(report, PairNumber { circuit, pair }, buffer)),
             None => None,
         }
     }

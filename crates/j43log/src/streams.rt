@@ -2,7 +2,7 @@
 // line is logged as it runs.
 use circuit::{Receiver, Taken};
 use frames::FRAME_OCTETS;
-use linelog::{LOG_OCTETS, log};
+use linelog::{LOG_OCTETS, PairNumber, log};
 use listening::receive;
 use raw::{PAIR, fill};
 use reception::Report;
@@ -23,7 +23,11 @@ const CIRCUIT: u32 = 0;
 // Writes the lines of a pair.
 fn write_lines(output: &mut impl Write, report: &Report, pair: u32) -> io::Result<()> {
     let mut lines = [0; LOG_OCTETS];
-    match log(report, CIRCUIT, pair, &mut lines) {
+    let number = PairNumber {
+        circuit: CIRCUIT,
+        pair,
+    };
+    match log(report, number, &mut lines) {
         Ok(length) => output.write_all(&lines[..length]),
         Err(_) => Ok(()),
     }

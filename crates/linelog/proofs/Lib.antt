@@ -1,6 +1,2 @@
-mod Room
 mod Numbers
 mod Fields
-mod Lengths
-mod Marks
-mod Copied

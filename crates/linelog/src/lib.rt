@@ -5,12 +5,10 @@
 mod faults;
 mod lines;
 mod logging;
-mod text;
-mod writing;
 
 pub use faults::LogFault;
+pub use lines::{LOG_OCTETS, PairNumber};
 pub use logging::log;
-pub use text::LOG_OCTETS;
 
 #[cfg(test)]
 mod tests;

@@ -6,7 +6,7 @@ ghost use Rattle.linelog.specs.Faults.{answer};
 ghost use Rattle.linelog.specs.Logging.{checking, logging};
 
 use crate::faults::LogFault;
-use crate::text::{LOG_OCTETS, Text};
+use crate::lines::{LOG_OCTETS, PairNumber, lines_of};
 use reception::Report;
 
 // The highest numbers that a log tells. Lines fit for any others too.
@@ -15,16 +15,16 @@ const HIGHEST_CIRCUIT: u32 = 255;
 const HIGHEST_PAIR: u32 = 999_999;
 
 // Refuses a buffer that holds no log, then numbers that are too high.
-fn check(circuit: u32, pair: u32, room: usize) -> Result<(), LogFault>
-    ensures { answer result ≡ checking circuit pair room }
+fn check(number: PairNumber, room: usize) -> Result<(), LogFault>
+    ensures { answer result ≡ checking number.circuit number.pair room }
 {
     if room != LOG_OCTETS {
         return Err(LogFault::Room(room));
     }
-    if circuit > HIGHEST_CIRCUIT {
+    if number.circuit > HIGHEST_CIRCUIT {
         return Err(LogFault::Circuit);
     }
-    if pair > HIGHEST_PAIR {
+    if number.pair > HIGHEST_PAIR {
         return Err(LogFault::Pair);
     }
     Ok(())
@@ -32,13 +32,15 @@ fn check(circuit: u32, pair: u32, room: usize) -> Result<(), LogFault>
 
 /// Writes the two lines of a pair's log into 96 octets, zeros after them, and answers how many octets the lines have.
 /// Another length of the buffer is refused, then a circuit, then a pair above the highest; nothing is written then.
-pub fn log(report: &Report, circuit: u32, pair: u32, buffer: &mut [u8]) -> Result<usize, LogFault>
-    ensures answer { answer result ≡ (logging circuit pair (report_told report.now) buffer.old).answer }
-    ensures buffer { buffer.new ≡ (logging circuit pair (report_told report.now) buffer.old).buffer }
+pub fn log(report: &Report, number: PairNumber, buffer: &mut [u8]) -> Result<usize, LogFault>
+    ensures answer { answer result ≡ (logging number.circuit number.pair (report_told report.now) buffer.old).answer }
+    ensures buffer { buffer.new ≡ (logging number.circuit number.pair (report_told report.now) buffer.old).buffer }
     ensures fits { IfOk result (λ n. n ≤ 96) }
 {
-    check(circuit, pair, buffer.len())?;
-    let text = Text::of_pair(report, circuit, pair);
-    buffer.copy_from_slice(&text.octets);
-    Ok(text.end)
+    check(number, buffer.len())?;
+    let text = lines_of(report, number);
+    let (lines, rest) = buffer.split_at_mut(text.len());
+    lines.copy_from_slice(text.as_bytes());
+    rest.fill(0);
+    Ok(text.len())
 }

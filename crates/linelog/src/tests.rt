@@ -1,5 +1,5 @@
 // Two lines worked by hand: of silence, and of a block that is muted.
-use crate::{LOG_OCTETS, log};
+use crate::{LOG_OCTETS, PairNumber, log};
 use decoder::{Cause, Verdict};
 use guards::ranges::Ranges;
 use reception::{BlockReport, Report};
@@ -21,12 +21,20 @@ fn lines_of_a_pair(rt: HostRuntime) {
         first: silence,
         second: silence,
     };
-    assert_eq!(rt; log(&report, 0, 0, &mut buffer), Ok(42));
+    let number = PairNumber {
+        circuit: 0,
+        pair: 0,
+    };
+    assert_eq!(rt; log(&report, number, &mut buffer), Ok(42));
     assert!(rt; buffer.starts_with(b"0 0 1 0 0 clean 0 32\n0 0 2 0 0 clean 0 32\n\0"));
     let report = Report {
         first: silence,
         second: muted,
     };
-    assert_eq!(rt; log(&report, 210, 10, &mut buffer), Ok(46));
+    let number = PairNumber {
+        circuit: 210,
+        pair: 10,
+    };
+    assert_eq!(rt; log(&report, number, &mut buffer), Ok(46));
     assert!(rt; buffer.starts_with(b"210 10 1 0 0 clean 0 32\n210 10 2 - - mute 3 0\n\0"));
 }

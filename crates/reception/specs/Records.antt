@@ -14,10 +14,10 @@ abbrev pub recorded : PairRecord → Recorded
 recorded r = record {
   lost = r.lost;
   range_word = r.ranges;
-  checks_first = r.first_checks;
-  checks_second = r.second_checks;
-  first = received r.first;
-  second = received r.second;
+  checks_first = r.first.checks;
+  checks_second = r.second.checks;
+  first = received r.first.received;
+  second = received r.second.received;
 }
 
 -- What stands in place of a pair before the first one.

@@ -1,7 +1,7 @@
 // Four lines, each with a signal of its own and harm of its own, and what a circuit on one of them gives for a pair.
 ghost use Rattle.std.specs.Prelude.{◌<◌};
 
-use circuit::{Circuit, Sent, Taken};
+use circuit::{Circuit, Sent};
 use frames::FRAME_OCTETS;
 use raw::PAIR;
 use reception::Report;
@@ -94,9 +94,7 @@ pub(crate) fn take(
             Some(came) => circuit.take(&came, &mut words),
             None => circuit.lose(&mut words),
         };
-        if let Ok(Taken::Given(given)) = taken {
-            report = Some(given);
-        }
+        report = taken.ok().flatten();
     }
     Turn {
         sent,

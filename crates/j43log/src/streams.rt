@@ -1,6 +1,6 @@
 // The program's loop over standard input, a frame at a time: each pair's lines are written as soon as it is given, so that a live
 // line is logged as it runs.
-use circuit::{Receiver, Taken};
+use circuit::Receiver;
 use frames::FRAME_OCTETS;
 use linelog::{LOG_OCTETS, log};
 use listening::receive;
@@ -46,7 +46,7 @@ pub(crate) fn log_all(rt: &HostRuntime) -> io::Result<()> {
         if let Some(refusal) = outcome.refused {
             eprintln!(rt; "{}", RefusedUnit::frame(u64::from(frame), refusal))?;
         }
-        if let Taken::Given(report) = outcome.taken {
+        if let Some(report) = outcome.taken {
             write_lines(&mut output, &report, frame.saturating_sub(FRAMES_AFTER))?;
         }
     }

@@ -40,7 +40,7 @@ fn first_outside(values: &[i32]) -> Option<usize>
         .position(|value| magnitude(*value) >= MAGNITUDES)
 }
 
-// A pair of samples as values of a word law.
+// A pair of samples as values of a word law. A slice has no `map`; to make an array of it first would measure it twice.
 fn widen(samples: &[i16]) -> [i32; PAIR]
     requires { length samples.now ≡ 64 }
     ensures { result ≡ samples.now }
@@ -77,6 +77,7 @@ impl Sender {
             None => Sent::Held,
             Some(held) => {
                 let own = code(&held, &pair);
+                // Refused only where the buffer holds no frame, and it was measured.
                 let _ = Frame::woven(&own, &self.one, &self.two).write(frame);
                 self.two = self.one;
                 self.one = own;

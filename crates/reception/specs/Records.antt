@@ -4,7 +4,7 @@ use Rattle.words.specs.Meaning.{Meaning}
 use Rattle.frames.specs.Frame.{Pair, heard, blank}
 use Rattle.decoder.specs.Received.{received}
 use Rattle.reception.specs.declared.record.PairRecord.{PairRecord}
-use Rattle.reception.specs.declared.ring.Records.{Records}
+use Rattle.reception.specs.declared.records.Records.{Records}
 use Rattle.reception.specs.Arrivals.{Arrival, is_lost, octets_in}
 use Rattle.reception.specs.Recording.{Recorded, begun, followed, completed}
 use Rattle.reception.specs.Given.{PairGiven, giving}

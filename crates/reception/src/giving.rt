@@ -49,7 +49,8 @@ impl PairRecord {
         let after_first = second.follower();
         let after_second = next.first.received.follower();
         let samples = joined(&first.samples(&after_first), &second.samples(&after_second));
-        // Refused only where there is no room for 64 words, and there nothing is to be written.
+        // Refused only where there is no room for 64 words, and there nothing is to be written. It tries every sample before it makes
+        // words, which an outlet does not need; a loop here that made each word at once would be the half of `compand` again.
         let _ = compand(outlet, &samples, words);
         Report {
             first: report_on(first, &after_first),

@@ -2,11 +2,11 @@ use Rattle.std.proofs.Common.{◌≡◌, ℕ, ◌+◌, ◌%◌, cond, eqb, map, 
 use Rattle.std.proofs.lemmas.List.{get_or-map}
 use Rattle.words.specs.Meaning.{Meaning}
 use Rattle.reception.specs.declared.record.PairRecord.{PairRecord}
-use Rattle.reception.specs.declared.ring.Records.{Records}
+use Rattle.reception.specs.declared.records.Records.{Records}
 use Rattle.reception.specs.Given.{PairGiven, giving}
 use Rattle.reception.specs.Records.{recorded, blank_record, recent_of, oldest_given}
 use Rattle.reception.specs.Reports.{report_told}
-use Rattle.reception.proofs.ring.Records.give.Goals as goal
+use Rattle.reception.proofs.records.Records.give.Goals as goal
 
 oldest : (rs : Records) (d : PairRecord) → recorded (get_or rs.slots rs.at d) ≡ get_or (recent_of rs) 3 blank_record
 oldest rs d =

@@ -3,10 +3,10 @@ use Rattle.std.proofs.Common.{◌≡◌, ℕ, zero, suc, ◌+◌, List, [], ◌�
 use Rattle.words.specs.Answers.{Answer}
 use Rattle.words.specs.Meaning.{Meaning}
 use Rattle.reception.specs.Arrivals.{Arrival}
-use Rattle.reception.specs.Given.{PairGiven}
-use Rattle.circuit.specs.declared.sent.Sent.{Sent}
+use Rattle.reception.specs.Given.{Told, PairGiven}
+use Rattle.circuit.specs.declared.sender.Sent.{Sent}
 use Rattle.circuit.specs.Putting.{Source, fresh_source}
-use Rattle.circuit.specs.Taking.{Sink, Outcome, fresh_sink}
+use Rattle.circuit.specs.Taking.{Sink, fresh_sink}
 use Rattle.circuit.specs.History.{Event, Outgoing, Incoming, put_seen, take_seen, source_after, sent_by, sending, source_at, sink_after, received_by, receiving, sink_at}
 use Rattle.circuit.specs.Promise.{sent, heard, WritesTheNextFrame, GivesTheNextPair}
 use Rattle.circuit.proofs.Receptions.{whole, as_many}
@@ -42,7 +42,7 @@ module _ (outlet : Meaning) where
       ap (λ (gs : List (Option PairGiven)). (received_by outlet s x).givens ++ gs) (givens_last h (sink_after outlet s x) e)
       ∙ sym (append_assoc (received_by outlet s x).givens (receiving outlet (sink_after outlet s x) h).givens (received_by outlet (sink_at outlet (sink_after outlet s x) h) e).givens)
 
-  pub gives_next : (s : Sink) (e : Event) (a : Arrival) (answer : Answer Outcome) (words : List ℕ)
+  pub gives_next : (s : Sink) (e : Event) (a : Arrival) (answer : Answer (Option Told)) (words : List ℕ)
       → take_seen answer a words ≡ received_by outlet s e → GivesTheNextPair outlet s e answer words
   gives_next s e a answer words is h at report was N many =
       let before = (heard outlet h).givens in
@@ -50,6 +50,6 @@ module _ (outlet : Meaning) where
       (givens_last h fresh_sink e
       ∙ ap (λ (t : Sink). (heard outlet h).givens ++ (received_by outlet t e).givens) at
       ∙ ap (λ (i : Incoming). (heard outlet h).givens ++ i.givens) (sym is)
-      ∙ ap (λ (x : Answer Outcome). (heard outlet h).givens ++ (take_seen x a words).givens) was)
+      ∙ ap (λ (x : Answer (Option Told)). (heard outlet h).givens ++ (take_seen x a words).givens) was)
       ∙ end (heard outlet h).givens (Some (record { words = words; report = report })) None (N + 3)
       (many ∙ sym (ap length (whole outlet h fresh_sink) ∙ as_many outlet (heard outlet h).arrivals fresh_sink))

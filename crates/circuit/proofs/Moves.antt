@@ -16,7 +16,7 @@ pub data Move (s : Source) (frame : List ℕ) (values : List ℤ) (put : Put) : 
 
 module _ (s : Source) (frame : List ℕ) where
   by_found : (values : List ℤ) → length frame ≡ 80 → length values ≡ 64 → (o : Option ℕ) → first_outside 0 values ≡ o → Move s frame values (by_values s frame o values)
-  by_found values f n None e = accepted f (record { all = n; bounded = none_outside values 0 e }) refl
+  by_found values f n None e = accepted f (record { all = n; bounded = λ k l. none_outside values 0 e k }) refl
   by_found values f n (Some i) e = idle 2 i _ refl
 
   by_value : (values : List ℤ) → length frame ≡ 80 → length values ≡ 64 → Move s frame values (valued s frame values)

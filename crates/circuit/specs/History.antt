@@ -6,11 +6,11 @@ use Rattle.words.specs.Meaning.{Meaning, middle}
 use Rattle.frames.specs.Frame.{Pair, frame}
 use Rattle.pairs.specs.Sending.{sent_pair}
 use Rattle.reception.specs.Arrivals.{Arrival}
-use Rattle.reception.specs.Given.{PairGiven}
-use Rattle.circuit.specs.declared.sent.Sent.{Sent}
-use Rattle.circuit.specs.declared.sent.Sent.TheVariants.{Held, Written}
+use Rattle.reception.specs.Given.{Told, PairGiven}
+use Rattle.circuit.specs.declared.sender.Sent.{Sent}
+use Rattle.circuit.specs.declared.sender.Sent.TheVariants.{Held, Written}
 use Rattle.circuit.specs.Putting.{Source, Put, fresh_source, putting, putting_words}
-use Rattle.circuit.specs.Taking.{Sink, Took, Outcome, early, given, taking, losing}
+use Rattle.circuit.specs.Taking.{Sink, Took, taking, losing}
 
 -- One call, with all that it was handed: samples or words with their law's meaning, octets, and the contents of the buffers lent.
 pub data Event : Type 0 where
@@ -78,9 +78,9 @@ pub record Incoming : Type 0 where
 abbrev pub nothing_received : Incoming
 nothing_received = record { arrivals = []; givens = [] }
 
-abbrev pub take_seen : Answer Outcome → Arrival → List ℕ → Incoming
-take_seen (gives early) arrival words = record { arrivals = arrival ∷ []; givens = None ∷ [] }
-take_seen (gives (given report)) arrival words = record { arrivals = arrival ∷ []; givens = Some (record { words = words; report = report }) ∷ [] }
+abbrev pub take_seen : Answer (Option Told) → Arrival → List ℕ → Incoming
+take_seen (gives None) arrival words = record { arrivals = arrival ∷ []; givens = None ∷ [] }
+take_seen (gives (Some report)) arrival words = record { arrivals = arrival ∷ []; givens = Some (record { words = words; report = report }) ∷ [] }
 take_seen (refuses n p l) arrival words = nothing_received
 
 abbrev pub incoming : Took → Arrival → Incoming

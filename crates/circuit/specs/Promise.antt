@@ -6,10 +6,10 @@ use Rattle.damage.specs.Damage.{OneOctet}
 use Rattle.reception.specs.Arrivals.{Arrival, is_lost, octets_in}
 use Rattle.reception.specs.Given.{Told, PairGiven, pair_given}
 use Rattle.fidelity.specs.Crossing.{HardlyHarmed, Unharmed}
-use Rattle.circuit.specs.declared.sent.Sent.{Sent}
-use Rattle.circuit.specs.declared.sent.Sent.TheVariants.{Written}
+use Rattle.circuit.specs.declared.sender.Sent.{Sent}
+use Rattle.circuit.specs.declared.sender.Sent.TheVariants.{Written}
 use Rattle.circuit.specs.Putting.{Source, fresh_source}
-use Rattle.circuit.specs.Taking.{Sink, Outcome, given, fresh_sink}
+use Rattle.circuit.specs.Taking.{Sink, fresh_sink}
 use Rattle.circuit.specs.History.{Event, Outgoing, Incoming, FramesAreTheStandards, sending, receiving, source_at, sink_at}
 
 -- What was sent by a history: accepted put number N puts pair N, and frame N is what put N + 1 writes.
@@ -71,6 +71,6 @@ WritesTheNextFrame s e answer octets = (h : List Event) → source_at fresh_sour
     → frame_sent (h ++ (e ∷ [])) (length (sent h).frames) ≡ octets
 
 -- A take or a loss that gives, after any history that leads to the receiver's state, gives that history's next pair.
-abbrev pub GivesTheNextPair : Meaning → Sink → Event → Answer Outcome → List ℕ → Type 0
-GivesTheNextPair outlet s e answer words = (h : List Event) → sink_at outlet fresh_sink h ≡ s → (report : Told) → answer ≡ gives (given report)
+abbrev pub GivesTheNextPair : Meaning → Sink → Event → Answer (Option Told) → List ℕ → Type 0
+GivesTheNextPair outlet s e answer words = (h : List Event) → sink_at outlet fresh_sink h ≡ s → (report : Told) → answer ≡ gives (Some report)
     → (N : ℕ) → N + 3 ≡ length (heard outlet h).arrivals → pair_out outlet (h ++ (e ∷ [])) N ≡ Some (record { words = words; report = report })

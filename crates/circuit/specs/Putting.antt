@@ -8,9 +8,9 @@ use Rattle.words.specs.Lists.{first_refused}
 use Rattle.frames.specs.Frame.{Pair as Coded, frame_of, blank}
 use Rattle.frames.specs.Content.{Listed, listed, coded}
 use Rattle.pairs.specs.declared.pair.Pair.{Pair as Samples}
-use Rattle.circuit.specs.declared.sent.Sent.{Sent}
-use Rattle.circuit.specs.declared.sent.Sent.TheVariants.{Held, Written}
-use Rattle.circuit.specs.declared.sent.Sender.{Sender}
+use Rattle.circuit.specs.declared.sender.Sent.{Sent}
+use Rattle.circuit.specs.declared.sender.Sent.TheVariants.{Held, Written}
+use Rattle.circuit.specs.declared.sender.Sender.{Sender}
 use Rattle.pairs.specs.Sending.{sent_pair}
 
 -- A coded pair from the lists of all that it has.

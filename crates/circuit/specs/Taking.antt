@@ -1,5 +1,5 @@
 -- What a take or a loss answers, writes and leaves.
-use Rattle.std.specs.Prelude.{ℕ, ◌+◌, cond, List, length, Some, None, ◌==◌}
+use Rattle.std.specs.Prelude.{ℕ, ◌+◌, cond, List, length, Some, None, Option, ◌==◌}
 use Rattle.words.specs.declared.faults.Layer.TheVariants.{Pair}
 use Rattle.words.specs.Answers.{Answer, gives, refuses}
 use Rattle.words.specs.Meaning.{Meaning}
@@ -10,9 +10,8 @@ use Rattle.reception.specs.Given.{Told}
 use Rattle.reception.specs.Recording.{Recorded}
 use Rattle.reception.specs.Records.{no_records, arrive_by, oldest_given, recent_of}
 use Rattle.reception.specs.Reports.{report_told}
-use Rattle.circuit.specs.declared.taken.Taken.{Taken}
-use Rattle.circuit.specs.declared.taken.Taken.TheVariants.{Early, Given}
-use Rattle.circuit.specs.declared.held.Receiver.{Receiver}
+use Rattle.reception.specs.declared.report.Report.{Report}
+use Rattle.circuit.specs.declared.receiver.Receiver.{Receiver}
 
 -- A receiver by the arrivals that it has seen, three at the most, and its records, the newest first.
 pub record Sink : Type 0 where
@@ -25,16 +24,12 @@ sink_of r = record { seen = r.seen; recent = recent_of r.records }
 abbrev pub fresh_sink : Sink
 fresh_sink = record { seen = 0; recent = no_records }
 
--- What an accepted arrival is answered: early, or the report on the pair given.
-pub data Outcome : Type 0 where
-  early : Outcome
-  given : Told → Outcome
+-- What an accepted arrival is answered: the report on the pair given, none where it is too early for one.
+abbrev pub outcome_of : Option Report → Option Told
+outcome_of None = None
+outcome_of (Some report) = Some (report_told report)
 
-abbrev pub outcome_of : Taken → Outcome
-outcome_of Early = early
-outcome_of (Given report) = given (report_told report)
-
-abbrev pub outcome : Answer Taken → Answer Outcome
+abbrev pub outcome : Answer (Option Report) → Answer (Option Told)
 outcome (gives taken) = gives (outcome_of taken)
 outcome (refuses n p l) = refuses n p l
 
@@ -42,22 +37,22 @@ outcome (refuses n p l) = refuses n p l
 pub record Took : Type 0 where
   pub sink : Sink
   pub words : List ℕ
-  pub answer : Answer Outcome
+  pub answer : Answer (Option Told)
 
 -- The buffer is measured first: 6.
 abbrev pub measuring : ℕ → Answer (Unit {0})
 measuring room = cond (room == 64) (gives tt) (refuses 6 room Pair)
 
 module _ (outlet : Meaning) (s : Sink) (words : List ℕ) where
-  abbrev pub refusing : Answer Outcome → Took
+  abbrev pub refusing : Answer (Option Told) → Took
   refusing a = record { sink = s; words = words; answer = a }
 
   -- The records with the new arrival: the first three are early, each later one gives the oldest pair.
   abbrev pub answering : List Recorded → Took
   answering recent =
       cond (s.seen == 3)
-      (record { sink = record { seen = s.seen; recent = recent }; words = (oldest_given outlet recent).words; answer = gives (given (oldest_given outlet recent).report) })
-      (record { sink = record { seen = s.seen + 1; recent = recent }; words = words; answer = gives early })
+      (record { sink = record { seen = s.seen; recent = recent }; words = (oldest_given outlet recent).words; answer = gives (Some (oldest_given outlet recent).report) })
+      (record { sink = record { seen = s.seen + 1; recent = recent }; words = words; answer = gives None })
 
   abbrev pub arriving : Arrival → Took
   arriving a = answering (arrive_by a s.recent)

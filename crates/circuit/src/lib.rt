@@ -4,18 +4,13 @@
 
 mod circuit;
 mod faults;
-mod held;
-mod life;
 mod promises;
 mod receiver;
 mod sender;
-mod sent;
-mod taken;
 
 pub use circuit::Circuit;
 pub use faults::PairFault;
-pub use held::Receiver;
 pub use pairs::{PAIR, Pair, code};
 pub use promises::frames_are_the_standards;
-pub use sent::{Sender, Sent};
-pub use taken::Taken;
+pub use receiver::Receiver;
+pub use sender::{Sender, Sent};

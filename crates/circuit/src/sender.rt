@@ -5,7 +5,6 @@ ghost use Rattle.circuit.specs.Faults.{answer};
 ghost use Rattle.circuit.specs.Putting.{source_of, fresh_source, first_outside, accepting, valued, measuring, putting, putting_words};
 
 use crate::faults::PairFault;
-use crate::sent::{Sender, Sent};
 use frames::{CodedPair, FRAME_OCTETS, Frame, FrameFault};
 use pairs::{PAIR, Pair, code};
 use words::{WordFault, WordLaw, expand, magnitude};
@@ -13,19 +12,35 @@ use words::{WordFault, WordLaw, expand, magnitude};
 // One more than the largest magnitude of a sample.
 const MAGNITUDES: u32 = 8192;
 
+/// What became of a pair that was put.
+#[derive(Clone, Copy, PartialEq, Eq, Debug)]
+pub enum Sent {
+    /// It waits for the next pair: nothing was written.
+    Held,
+    /// The frame of the pair before it was written.
+    Written,
+}
+
+/// Turns pairs into frames. A pair waits until the next one is put, since the next pair's first sample belongs to its code.
+#[derive(Clone, Copy)]
+pub struct Sender {
+    /// The pair that waits.
+    pub(crate) held: Option<Pair>,
+    /// The coded pairs one and two before it: a frame carries words of both.
+    pub(crate) one: CodedPair,
+    pub(crate) two: CodedPair,
+}
+
 // The index of the first value that is no sample.
 fn first_outside(values: &[i32]) -> Option<usize>
     ensures { result ≡ first_outside 0 values.now }
 {
-    for (i, value) in values.iter().enumerate() {
-        if magnitude(*value) >= MAGNITUDES {
-            return Some(i);
-        }
-    }
-    None
+    values
+        .iter()
+        .position(|value| magnitude(*value) >= MAGNITUDES)
 }
 
-// A pair of samples as values of a word law.
+// A pair of samples as values of a word law. A slice has no `map`; to make an array of it first would measure it twice.
 fn widen(samples: &[i16]) -> [i32; PAIR]
     requires { length samples.now ≡ 64 }
     ensures { result ≡ samples.now }
@@ -62,6 +77,7 @@ impl Sender {
             None => Sent::Held,
             Some(held) => {
                 let own = code(&held, &pair);
+                // Refused only where the buffer holds no frame, and it was measured.
                 let _ = Frame::woven(&own, &self.one, &self.two).write(frame);
                 self.two = self.one;
                 self.one = own;

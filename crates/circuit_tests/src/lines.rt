@@ -1,7 +1,7 @@
 // Four lines, each with a signal of its own and harm of its own, and what a circuit on one of them gives for a pair.
 ghost use Rattle.std.specs.Prelude.{◌<◌};
 
-use circuit::{Circuit, Sent, Taken};
+use circuit::{Circuit, Sent};
 use frames::FRAME_OCTETS;
 use raw::PAIR;
 use reception::Report;
@@ -18,9 +18,9 @@ pub(crate) fn signal(line: usize, pair: usize) -> [i16; PAIR]
     requires few_pairs { pair < 64 }
 {
     let mut samples = [0; PAIR];
-    for i in 0..PAIR {
+    for (i, sample) in samples.iter_mut().enumerate() {
         let step = (i * (line + 1) + 5 * pair) % 64;
-        samples[i] = (step as i16 - 32) * LOUDNESS[line];
+        *sample = (step as i16 - 32) * LOUDNESS[line];
     }
     samples
 }
@@ -88,16 +88,13 @@ pub(crate) fn take(
     requires { pair < 64 }
 {
     let mut words = [0; PAIR];
-    let mut report = None;
-    if let Some(frame) = sent {
-        let taken = match carried(line, pair, &frame) {
-            Some(came) => circuit.take(&came, &mut words),
-            None => circuit.lose(&mut words),
-        };
-        if let Ok(Taken::Given(given)) = taken {
-            report = Some(given);
-        }
-    }
+    let report = match sent {
+        Some(frame) => match carried(line, pair, &frame) {
+            Some(came) => circuit.take(&came, &mut words).ok().flatten(),
+            None => circuit.lose(&mut words).ok().flatten(),
+        },
+        None => None,
+    };
     Turn {
         sent,
         words,

@@ -6,6 +6,7 @@ use circuit::{Circuit, PairFault};
 use frames::{FRAME_OCTETS, FrameFault};
 use raw::PAIR;
 use reception::BlockReport;
+use std::array;
 use std::process::Abort;
 use std::test::Fail;
 use words::{Linear, WordLaw};
@@ -37,12 +38,7 @@ fn same(rt: &impl Abort, left: &Turn, right: &Turn) -> Result<(), Fail> {
 }
 
 fn four() -> [Circuit<Linear>; LINES] {
-    [
-        Circuit::new(Linear),
-        Circuit::new(Linear),
-        Circuit::new(Linear),
-        Circuit::new(Linear),
-    ]
+    array::from_fn(|_| Circuit::new(Linear))
 }
 
 // Puts a pair into each circuit, and then lets each take.
@@ -50,12 +46,12 @@ fn turns(circuits: &mut [Circuit<Linear>; LINES], pair: usize) -> [Turn; LINES]
     requires { pair < 64 }
 {
     let mut sent = [None; LINES];
-    for line in 0..LINES {
-        sent[line] = put(&mut circuits[line], line, pair);
+    for (line, circuit) in circuits.iter_mut().enumerate() {
+        sent[line] = put(circuit, line, pair);
     }
     let mut turns = [Turn::none(); LINES];
-    for line in 0..LINES {
-        turns[line] = take(&mut circuits[line], line, pair, sent[line]);
+    for (line, circuit) in circuits.iter_mut().enumerate() {
+        turns[line] = take(circuit, line, pair, sent[line]);
     }
     turns
 }
@@ -75,8 +71,8 @@ fn side_by_side_is_as_alone(rt: HostRuntime) -> Result<(), Fail> {
 
 // Words of the linear law, read, are these samples.
 fn are_words_of(rt: &impl Abort, words: &[u16; PAIR], samples: &[i16; PAIR]) {
-    for i in 0..PAIR {
-        assert_eq!(rt; Linear.read(words[i]).ok(), Some(i32::from(samples[i])));
+    for (word, sample) in words.iter().zip(samples) {
+        assert_eq!(rt; Linear.read(*word).ok(), Some(i32::from(*sample)));
     }
 }
 

@@ -1,6 +1,6 @@
 // The circuit that the console drives, whose outlet is chosen at run time, and the last report that it gave.
 use crate::law::{Law, under};
-use circuit::{Circuit, PairFault, Sent, Taken};
+use circuit::{Circuit, PairFault, Sent};
 use linelog::{LogFault, PairNumber, log};
 use reception::Report;
 use words::{Linear, VariantB, WordLaw};
@@ -76,19 +76,19 @@ impl Bench {
     }
 
     // Keeps the report of a pair that is given.
-    fn noted(&mut self, outcome: Result<Taken, PairFault>) -> Result<Taken, PairFault> {
-        if let Ok(Taken::Given(report)) = outcome {
+    fn noted(&mut self, outcome: Result<Option<Report>, PairFault>) -> Result<Option<Report>, PairFault> {
+        if let Ok(Some(report)) = outcome {
             self.last = Some(report);
         }
         outcome
     }
 
-    pub(crate) fn take(&mut self, octets: &[u8], words: &mut [u16]) -> Result<Taken, PairFault> {
+    pub(crate) fn take(&mut self, octets: &[u8], words: &mut [u16]) -> Result<Option<Report>, PairFault> {
         let outcome = on!(self, circuit, circuit.take(octets, words));
         self.noted(outcome)
     }
 
-    pub(crate) fn lose(&mut self, words: &mut [u16]) -> Result<Taken, PairFault> {
+    pub(crate) fn lose(&mut self, words: &mut [u16]) -> Result<Option<Report>, PairFault> {
         let outcome = on!(self, circuit, circuit.lose(words));
         self.noted(outcome)
     }

@@ -2,7 +2,8 @@
 use crate::bench::Bench;
 use crate::law::Law;
 use crate::reply::Reply;
-use circuit::{PairFault, Sent, Taken};
+use circuit::{PairFault, Sent};
+use reception::Report;
 use std::alloc::{AllocError, Global};
 
 // What became of a pair, with the frame buffer that was lent.
@@ -15,10 +16,10 @@ fn sent(outcome: Result<Sent, PairFault>, frame: Vec<u8>) -> Reply {
 }
 
 // What became of a frame, with the word buffer that was lent.
-fn taken(outcome: Result<Taken, PairFault>, words: Vec<u16>) -> Reply {
+fn taken(outcome: Result<Option<Report>, PairFault>, words: Vec<u16>) -> Reply {
     match outcome {
-        Ok(Taken::Early) => Reply::Early,
-        Ok(Taken::Given(report)) => Reply::Pair(words, report),
+        Ok(None) => Reply::Early,
+        Ok(Some(report)) => Reply::Pair(words, report),
         Err(fault) => Reply::Refused(fault.into()),
     }
 }

@@ -1,6 +1,6 @@
 // The program's loop over standard input, a frame at a time: each pair's lines are written as soon as it is given, so that a live
 // line is logged as it runs.
-use circuit::{Receiver, Taken};
+use circuit::Receiver;
 use frames::FRAME_OCTETS;
 use linelog::{LOG_OCTETS, PairNumber, log};
 use listening::receive;
@@ -51,7 +51,7 @@ pub(crate) fn log_all(rt: &HostRuntime) -> io::Result<()> {
             let told = RefusedUnit::new(Unit::Frame, u64::from(frame), refusal);
             eprintln!(rt; "{told}")?;
         }
-        if let Taken::Given(report) = outcome.taken {
+        if let Some(report) = outcome.taken {
             write_lines(&mut output, &report, frame.saturating_sub(FRAMES_AFTER))?;
         }
     }

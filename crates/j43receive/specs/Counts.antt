@@ -3,8 +3,7 @@ use Rattle.std.specs.Prelude.{ℕ, ◌+◌, ◌*◌, ◌≤◌, cond, List, ◌+
 use Rattle.words.specs.declared.faults.Refusal.{Refusal}
 use Rattle.decoder.specs.Findings.{Finding, mutes, finding}
 use Rattle.fidelity.specs.Kept.{unmarked}
-use Rattle.circuit.specs.declared.taken.Taken.{Taken}
-use Rattle.circuit.specs.declared.taken.Taken.TheVariants.{Early, Given}
+use Rattle.reception.specs.declared.report.Report.{Report}
 use Rattle.listening.specs.declared.receiving.Outcome.{Outcome}
 use Rattle.j43receive.specs.declared.counts.Counts.{Counts}
 
@@ -16,21 +15,21 @@ abbrev pub refusals : Option Refusal → ℕ
 refusals None = 0
 refusals (Some r) = 1
 
-abbrev pub given : Taken → ℕ
-given Early = 0
-given (Given report) = 1
+abbrev pub given : Option Report → ℕ
+given None = 0
+given (Some report) = 1
 
 abbrev pub silenced : Finding → ℕ
 silenced found = cond (mutes found) 1 0
 
 -- The muted blocks of a pair, and its samples without a mark.
-abbrev pub muted_in : Taken → ℕ
-muted_in Early = 0
-muted_in (Given report) = silenced (finding report.first.verdict) + silenced (finding report.second.verdict)
+abbrev pub muted_in : Option Report → ℕ
+muted_in None = 0
+muted_in (Some report) = silenced (finding report.first.verdict) + silenced (finding report.second.verdict)
 
-abbrev pub unsound_in : Taken → ℕ
-unsound_in Early = 0
-unsound_in (Given report) = unmarked report.first.marks + unmarked report.second.marks
+abbrev pub unsound_in : Option Report → ℕ
+unsound_in None = 0
+unsound_in (Some report) = unmarked report.first.marks + unmarked report.second.marks
 
 -- One frame more.
 abbrev pub noted : Counts → Outcome → Counts

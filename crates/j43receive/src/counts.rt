@@ -5,7 +5,6 @@ ghost use Rattle.fidelity.specs.Kept.{unmarked};
 ghost use Rattle.j43receive.specs.Counts.{fresh, silenced, noted, Within, line};
 
 use blocks::BLOCK;
-use circuit::Taken;
 use decoder::Verdict;
 use listening::Outcome;
 use std::fmt;
@@ -75,7 +74,7 @@ impl Counts {
         if outcome.refused.is_some() {
             self.lost += 1;
         }
-        if let Taken::Given(report) = outcome.taken {
+        if let Some(report) = outcome.taken {
             self.pairs += 1;
             self.muted += silenced(report.first.verdict) + silenced(report.second.verdict);
             self.unsound += unsound(&report.first.marks) + unsound(&report.second.marks);

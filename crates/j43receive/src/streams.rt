@@ -2,7 +2,7 @@
 // stream is answered as it comes. What is done with each frame is proved elsewhere.
 use crate::counts::Counts;
 use crate::samples::sound;
-use circuit::{Receiver, Taken};
+use circuit::Receiver;
 use frames::FRAME_OCTETS;
 use listening::receive;
 use raw::{PAIR, fill};
@@ -32,7 +32,7 @@ pub(crate) fn receive_all(rt: &HostRuntime) -> io::Result<Counts> {
         if let Some(refusal) = outcome.refused {
             eprintln!(rt; "{}", RefusedUnit::new(Unit::Frame, frame, refusal))?;
         }
-        if let Taken::Given(_) = outcome.taken {
+        if outcome.taken.is_some() {
             output.write_all(&sound(&words))?;
         }
         counts.note(&outcome);

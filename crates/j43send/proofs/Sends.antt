@@ -2,7 +2,7 @@
 use Rattle.std.proofs.Common.{◌≡◌, ℕ, List, ℤ, Some, None, Option, refl, ap, ◌∙◌, arith}
 use Rattle.words.specs.declared.faults.Layer.{Layer}
 use Rattle.words.specs.Answers.{Answer, gives, refuses}
-use Rattle.circuit.specs.declared.sent.Sent.{Sent}
+use Rattle.circuit.specs.declared.sender.Sent.{Sent}
 use Rattle.circuit.specs.Putting.{Source, Put, accepting, putting}
 use Rattle.circuit.proofs.Moves.{Move, idle, accepted, put_moves}
 use Rattle.j43send.specs.Sending.{or_else}

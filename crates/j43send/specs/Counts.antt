@@ -1,8 +1,8 @@
 -- The counts over all pairs, and the line that tells them.
 use Rattle.std.specs.Prelude.{ℕ, ◌+◌, ◌≤◌, List, ◌++◌, Some, None, codes, decimal, Option}
 use Rattle.words.specs.declared.faults.Refusal.{Refusal}
-use Rattle.circuit.specs.declared.sent.Sent.{Sent}
-use Rattle.circuit.specs.declared.sent.Sent.TheVariants.{Held, Written}
+use Rattle.circuit.specs.declared.sender.Sent.{Sent}
+use Rattle.circuit.specs.declared.sender.Sent.TheVariants.{Held, Written}
 use Rattle.j43send.specs.declared.sending.Outcome.{Outcome}
 use Rattle.j43send.specs.declared.counts.Counts.{Counts}
 

@@ -4,7 +4,7 @@ use Rattle.std.proofs.Common.{to_z}
 use Rattle.std.specs.Int.{w16}
 use Rattle.raw.specs.Octets.{numbers_in}
 use Rattle.words.specs.Answers.{Answer, gives, refuses}
-use Rattle.circuit.specs.declared.sent.Sent.{Sent}
+use Rattle.circuit.specs.declared.sender.Sent.{Sent}
 use Rattle.circuit.specs.Putting.{Source, Put, accepting, putting}
 
 -- Samples are signed numbers of 16 bits.

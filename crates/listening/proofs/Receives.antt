@@ -1,24 +1,25 @@
 -- What `receive` leaves, by what the take of its frame answered.
-use Rattle.std.proofs.Common.{◌≡◌, ℕ, Bool, true, false, cond, eqb, List, length, Some, refl, ap, ◌∙◌, arith}
+use Rattle.std.proofs.Common.{◌≡◌, ℕ, Bool, true, false, cond, eqb, List, length, Some, Option, refl, ap, ◌∙◌, arith}
 use Rattle.words.specs.declared.faults.Layer.{Layer}
 use Rattle.words.specs.Answers.{Answer, gives, refuses}
 use Rattle.words.specs.Meaning.{Meaning}
 use Rattle.frames.specs.Content.{Listed}
 use Rattle.frames.specs.Answers.{reading}
+use Rattle.reception.specs.Given.{Told}
 use Rattle.reception.specs.Recording.{Recorded}
 use Rattle.reception.specs.Records.{arrive_by}
-use Rattle.circuit.specs.Taking.{Sink, Took, Outcome, measuring, answering, unless_refused, by_reading, taking}
+use Rattle.circuit.specs.Taking.{Sink, Took, measuring, answering, unless_refused, by_reading, taking}
 use Rattle.listening.specs.Receiving.{or_else}
 
 -- a frame that was taken is what is received
-pub kept : (took lost : Took) (x : Outcome) → gives x ≡ took.answer → took ≡ or_else took.answer took lost
-kept took lost x e = ap (λ (a : Answer Outcome). or_else a took lost) e
+pub kept : (took lost : Took) (x : Option Told) → gives x ≡ took.answer → took ≡ or_else took.answer took lost
+kept took lost x e = ap (λ (a : Answer (Option Told)). or_else a took lost) e
 
 -- a loss is received for one that was refused
 pub replaced : (took lost : Took) (n p : ℕ) (l : Layer) → refuses n p l ≡ took.answer → lost ≡ or_else took.answer took lost
-replaced took lost n p l e = ap (λ (a : Answer Outcome). or_else a took lost) e
+replaced took lost n p l e = ap (λ (a : Answer (Option Told)). or_else a took lost) e
 
-abbrev refusals : Answer Outcome → ℕ
+abbrev refusals : Answer (Option Told) → ℕ
 refusals (gives x) = 0
 refusals (refuses n p l) = 1
 

@@ -1,10 +1,11 @@
 -- What is made of a frame as it came: it is taken, or counted as lost where it is refused.
-use Rattle.std.specs.Prelude.{ℕ, List, None}
+use Rattle.std.specs.Prelude.{ℕ, List, None, Option}
 use Rattle.words.specs.Answers.{Answer, gives, refuses}
 use Rattle.words.specs.Linear.{linear}
-use Rattle.circuit.specs.Taking.{Sink, Took, Outcome, arriving, taking}
+use Rattle.reception.specs.Given.{Told}
+use Rattle.circuit.specs.Taking.{Sink, Took, arriving, taking}
 
-abbrev pub or_else : Answer Outcome → Took → Took → Took
+abbrev pub or_else : Answer (Option Told) → Took → Took → Took
 or_else (gives x) took lost = took
 or_else (refuses n p l) took lost = lost
 

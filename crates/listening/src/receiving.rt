@@ -6,22 +6,23 @@ ghost use Rattle.circuit.specs.Taking.{sink_of, outcome_of, arriving, taking};
 ghost use Rattle.telling.specs.Told.{refused_by};
 ghost use Rattle.listening.specs.Receiving.{receiving};
 
-use circuit::{Receiver, Taken};
+use circuit::Receiver;
 use frames::FRAME_OCTETS;
 use raw::PAIR;
+use reception::Report;
 use words::{Linear, Refusal};
 
 /// What became of a frame.
 #[derive(Clone, Copy)]
 pub struct Outcome {
-    /// Whether a pair was given, and the report on it.
-    pub taken: Taken,
+    /// The report on the pair that was given, none where it is too early for one.
+    pub taken: Option<Report>,
     /// Why the frame was counted as lost.
     pub refused: Option<Refusal>,
 }
 
 // Counts a frame as lost, which is never refused.
-fn lose(receiver: &mut Receiver<Linear>, words: &mut [u16; PAIR]) -> Taken
+fn lose(receiver: &mut Receiver<Linear>, words: &mut [u16; PAIR]) -> Option<Report>
     ensures state { sink_of receiver.new ≡ (arriving linear (sink_of receiver.old) words.old None).sink }
     ensures buffer { words.new ≡ (arriving linear (sink_of receiver.old) words.old None).words }
     ensures answer { gives (outcome_of result) ≡ (arriving linear (sink_of receiver.old) words.old None).answer }

@@ -17,9 +17,7 @@ impl Pair {
         ensures { result.samples ≡ first_block self.now.samples }
     {
         let mut samples = [0; BLOCK + 1];
-        for i in 0..BLOCK + 1 {
-            samples[i] = self.samples[i];
-        }
+        samples.copy_from_slice(&self.samples[..=BLOCK]);
         Block { samples }
     }
 
@@ -28,16 +26,15 @@ impl Pair {
         ensures { result.samples ≡ second_block self.now.samples next.now.samples }
     {
         let mut samples = [next.samples[0]; BLOCK + 1];
-        for i in 0..BLOCK {
-            samples[i] = self.samples[BLOCK + i];
-        }
+        samples[..BLOCK].copy_from_slice(&self.samples[BLOCK..]);
         Block { samples }
     }
 }
 
 // A block with its checks.
 fn guarded(block: &CodedBlock) -> GuardedBlock
-    ensures words { (result.odd ≡ block.now.odd) × (result.even ≡ block.now.even) }
+    ensures odd { result.odd ≡ block.now.odd }
+    ensures even { result.even ≡ block.now.even }
     ensures checks { result.checks ≡ checks_of (parities (word_in result)) }
 {
     let parities = parities(&block.odd.words, &block.even.words);

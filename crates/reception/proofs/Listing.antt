@@ -1,5 +1,5 @@
 -- Frames that are equal as lists are recorded alike: same words, range word and checks, hence the same records.
-use Rattle.std.proofs.Common.{◌≡◌, ℕ, ◌+◌, ◌*◌, Bool, ◌||◌, List, [], ◌∷◌, get_or, ap, ◌∙◌, arith}
+use Rattle.std.proofs.Common.{◌≡◌, ℕ, ◌+◌, ◌*◌, Bool, ◌||◌, List, get_or, refl, ap, ◌∙◌, arith}
 use Rattle.guards.specs.Counts.{same_map}
 use Rattle.frames.specs.Places.{IsBlock}
 use Rattle.frames.specs.Frame.{Pair, SamePair, heard}
@@ -8,10 +8,10 @@ use Rattle.frames.proofs.Same.{same_listed}
 use Rattle.reception.specs.declared.arrived.Arrived.{Arrived}
 use Rattle.reception.specs.Arrivals.{Arrival, is_lost, octets_in}
 use Rattle.reception.specs.Blocks.{odd_words_of, even_words_of, judged}
-use Rattle.reception.specs.Recording.{Recorded, begun, followed, completed, unjudged, no_words}
+use Rattle.reception.specs.Recording.{Recorded, begun, followed, completed, unjudged}
 use Rattle.reception.specs.Carried.{carried, carried_by}
 use Rattle.reception.specs.Records.{blank_record, arrive_with, arrive_by}
-use Rattle.reception.proofs.Pairs.{pair_of, same_blocks}
+use Rattle.reception.proofs.Pairs.{same_pair}
 
 abbrev block_1 : IsBlock 1
 block_1 = record { from = omega arith; upto = omega arith }
@@ -40,28 +40,26 @@ module _ (p q : Pair) (e : listed p ≡ listed q) where
   checks_same = same.check_words
 
   pub begun_same : (lost : Bool) → begun lost p ≡ begun lost q
-  begun_same lost =
-      ap (λ (w : ℕ). pair_of lost w (p.checks 1) (p.checks 2) (unjudged no_words no_words) (unjudged no_words no_words)) ranges_same
-      ∙ ap (λ (c : ℕ). pair_of lost q.ranges c (p.checks 2) (unjudged no_words no_words) (unjudged no_words no_words)) (checks_same 1 block_1)
-      ∙ ap (λ (c : ℕ). pair_of lost q.ranges (q.checks 1) c (unjudged no_words no_words) (unjudged no_words no_words)) (checks_same 2 block_2)
+  begun_same lost = same_pair lost ranges_same (checks_same 1 block_1) (checks_same 2 block_2) refl refl
 
   pub followed_same : (lost : Bool) (r : Recorded) → followed lost p r ≡ followed lost q r
   followed_same lost r =
-      same_blocks _ _ _ _
+      same_pair _ refl refl refl
       (ap (λ (ws : List ℕ). unjudged ws r.first.even_words) (odd_words_same 1 block_1))
       (ap (unjudged r.second.odd_words) (even_words_same 2 block_2))
 
   pub completed_same : (lost : Bool) (r : Recorded) → completed lost p r ≡ completed lost q r
   completed_same lost r =
-      same_blocks _ _ _ _
+      same_pair _ refl refl refl
       (ap (judged (r.lost || lost) r.range_word 1 r.checks_first r.first.odd_words) (even_words_same 1 block_1))
       (ap (λ (ws : List ℕ). judged (r.lost || lost) r.range_word 2 r.checks_second ws r.second.even_words) (odd_words_same 2 block_2))
 
   pub arrive_same : (lost : Bool) (rs : List Recorded) → arrive_with lost p rs ≡ arrive_with lost q rs
   arrive_same lost rs =
-      ap (λ (r : Recorded). r ∷ followed lost p (get_or rs 0 blank_record) ∷ completed lost p (get_or rs 1 blank_record) ∷ get_or rs 2 blank_record ∷ []) (begun_same lost)
-      ∙ ap (λ (r : Recorded). begun lost q ∷ r ∷ completed lost p (get_or rs 1 blank_record) ∷ get_or rs 2 blank_record ∷ []) (followed_same lost (get_or rs 0 blank_record))
-      ∙ ap (λ (r : Recorded). begun lost q ∷ followed lost q (get_or rs 0 blank_record) ∷ r ∷ get_or rs 2 blank_record ∷ []) (completed_same lost (get_or rs 1 blank_record))
+      let own = begun_same lost in
+      let second = followed_same lost (get_or rs 0 blank_record) in
+      let third = completed_same lost (get_or rs 1 blank_record) in
+      cc
 
 -- by an arrival that carries the same
 pub arrive_carried : (x : Arrived) (a : Arrival) → carried x ≡ carried_by a → (rs : List Recorded) → arrive_with x.lost (pair_in x.frame) rs ≡ arrive_by a rs

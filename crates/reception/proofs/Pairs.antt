@@ -1,5 +1,5 @@
--- A recorded pair by its two blocks: where the blocks are the same, so is the pair.
-use Rattle.std.proofs.Common.{◌≡◌, ℕ, Bool, ap, ◌∙◌}
+-- A recorded pair by its parts: where they are the same, so is the pair.
+use Rattle.std.proofs.Common.{◌≡◌, ℕ, Bool}
 use Rattle.decoder.specs.Samples.{Received}
 use Rattle.reception.specs.Recording.{Recorded}
 
@@ -13,5 +13,5 @@ pair_of lost range_word checks_first checks_second first second = record {
   second = second;
 }
 
-pub same_blocks : (lost : Bool) (w c d : ℕ) {x y s t : Received} → x ≡ s → y ≡ t → pair_of lost w c d x y ≡ pair_of lost w c d s t
-same_blocks lost w c d {x} {y} {s} {t} p q = ap (λ (b : Received). pair_of lost w c d b y) p ∙ ap (pair_of lost w c d s) q
+pub same_pair : (lost : Bool) {w v c d e f : ℕ} {x y s t : Received} → w ≡ v → c ≡ e → d ≡ f → x ≡ s → y ≡ t → pair_of lost w c d x y ≡ pair_of lost v e f s t
+same_pair lost n p q r h = cc

@@ -32,9 +32,10 @@ module _ (first second next : Received) (f g : Follower) (xs ys row : List ℤ) 
   pub row_small : (k : ℕ) → mag (get_or row k (pos 0)) < 2 ^ 13
   row_small k =
       subst (λ (zs : List ℤ). mag (get_or zs k (pos 0)) < 2 ^ 13) (sym joined)
-      (holds_of_both xs ys (all_sampled first second f xs a) (all_sampled second next g ys b) (λ v. mag v < 2 ^ 13) a.small b.small k)
+      (holds_of_both (λ v. mag v < 2 ^ 13) xs ys a.small b.small k)
 
   pub row_same : row ≡ pair_samples first second next
   row_same =
-      joined ∙ ap (λ (zs : List ℤ). zs ++ ys) (same_sampled first second f xs a)
-      ∙ ap (λ (zs : List ℤ). samples_of first (follower_of second) ++ zs) (same_sampled second next g ys b)
+      let here = same_sampled first second f xs a in
+      let there = same_sampled second next g ys b in
+      cc

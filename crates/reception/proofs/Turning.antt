@@ -54,12 +54,11 @@ module _ (lost : Bool) (frame : Pair) (at : ℕ) (slots : List PairRecord) (d e 
       ≡ arrive_with lost frame (backwards at (map recorded slots))
   unfolding seen
   turned =
-      ap (backwards ((at + 1) % 4)) as_recorded
-      ∙ turn at seen (recorded f) (recorded g) (recorded x) t.low (length-map slots recorded ∙ t.four)
-      ∙ ap (λ (r : Recorded). r ∷ recorded f ∷ recorded g ∷ get_or seen ((at + 1) % 4) blank_record ∷ []) t.begins
-      ∙ ap (λ (r : Recorded). begun lost frame ∷ r ∷ recorded g ∷ get_or seen ((at + 1) % 4) blank_record ∷ []) (t.follows ∙ ap (followed lost frame) newest)
-      ∙ ap (λ (r : Recorded). begun lost frame ∷ followed lost frame (get_or seen ((at + 3) % 4) blank_record) ∷ r ∷ get_or seen ((at + 1) % 4) blank_record ∷ [])
-      (t.completes ∙ ap (completed lost frame) before_it)
+      let own = t.begins in
+      let second = t.follows ∙ ap (followed lost frame) newest in
+      let third = t.completes ∙ ap (completed lost frame) before_it in
+      let rows = ap (backwards ((at + 1) % 4)) as_recorded ∙ turn at seen (recorded f) (recorded g) (recorded x) t.low (length-map slots recorded ∙ t.four) in
+      cc
 
   pub still_four : length (set (set (set slots ((at + 3) % 4) f) ((at + 2) % 4) g) at x) ≡ 4
   still_four = simp length-set t.four

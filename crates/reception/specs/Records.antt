@@ -4,7 +4,7 @@ use Rattle.words.specs.Meaning.{Meaning}
 use Rattle.frames.specs.Frame.{Pair, heard, blank}
 use Rattle.decoder.specs.Received.{received}
 use Rattle.reception.specs.declared.record.PairRecord.{PairRecord}
-use Rattle.reception.specs.declared.ring.Records.{Records}
+use Rattle.reception.specs.declared.records.Records.{Records}
 use Rattle.reception.specs.Arrivals.{Arrival, is_lost, octets_in}
 use Rattle.reception.specs.Recording.{Recorded, begun, followed, completed}
 use Rattle.reception.specs.Given.{PairGiven, giving}
@@ -14,10 +14,10 @@ abbrev pub recorded : PairRecord → Recorded
 recorded r = record {
   lost = r.lost;
   range_word = r.ranges;
-  checks_first = r.first_checks;
-  checks_second = r.second_checks;
-  first = received r.first;
-  second = received r.second;
+  checks_first = r.first.checks;
+  checks_second = r.second.checks;
+  first = received r.first.received;
+  second = received r.second.received;
 }
 
 -- What stands in place of a pair before the first one.

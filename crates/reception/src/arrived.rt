@@ -7,7 +7,8 @@ ghost use Rattle.reception.specs.Carried.{carried, carried_by};
 use blocks::{EvenWords, HALF, OddWords};
 use frames::{Frame, FrameFault, GuardedBlock};
 
-/// What arrives of a frame: what it carries, nothing where it is lost.
+/// What arrives of a frame: what it carries, nothing where it is lost. With an `Option` of a frame each of the three steps of a
+/// record would have a second arm that writes zeros, and be no plainer.
 #[derive(Clone, Copy)]
 pub struct Arrived {
     pub lost: bool,

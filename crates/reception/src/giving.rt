@@ -18,10 +18,8 @@ fn joined(first: &[i32; BLOCK], second: &[i32; BLOCK]) -> [i32; PAIR]
     ensures { result ≡ first.now ++ second.now }
 {
     let mut samples = [0; PAIR];
-    for i in 0..BLOCK {
-        samples[i] = first[i];
-        samples[BLOCK + i] = second[i];
-    }
+    samples[..BLOCK].copy_from_slice(first);
+    samples[BLOCK..].copy_from_slice(second);
     samples
 }
 
@@ -44,16 +42,19 @@ impl PairRecord {
         outlet: &O,
         words: &mut [u16],
     ) -> Report
-        ensures report { report_told result ≡ (giving (O.WordLaw.meaning outlet.now) (received self.now.first) (received self.now.second) (received next.now.first)).report }
-        ensures buffer { words.new ≡ (if length words.old == 64 then (giving (O.WordLaw.meaning outlet.now) (received self.now.first) (received self.now.second) (received next.now.first)).words else words.old) }
+        ensures report { report_told result ≡ (giving (O.WordLaw.meaning outlet.now) (received self.now.first.received) (received self.now.second.received) (received next.now.first.received)).report }
+        ensures buffer { words.new ≡ (if length words.old == 64 then (giving (O.WordLaw.meaning outlet.now) (received self.now.first.received) (received self.now.second.received) (received next.now.first.received)).words else words.old) }
     {
-        let second = self.second.follower();
-        let next = next.first.follower();
-        let samples = joined(&self.first.samples(&second), &self.second.samples(&next));
+        let (first, second) = (&self.first.received, &self.second.received);
+        let after_first = second.follower();
+        let after_second = next.first.received.follower();
+        let samples = joined(&first.samples(&after_first), &second.samples(&after_second));
+        // Refused only where there is no room for 64 words, and there nothing is to be written. It tries every sample before it makes
+        // words, which an outlet does not need; a loop here that made each word at once would be the half of `compand` again.
         let _ = compand(outlet, &samples, words);
         Report {
-            first: report_on(&self.first, &second),
-            second: report_on(&self.second, &next),
+            first: report_on(first, &after_first),
+            second: report_on(second, &after_second),
         }
     }
 }

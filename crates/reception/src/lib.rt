@@ -6,9 +6,8 @@ mod giving;
 mod record;
 mod records;
 mod report;
-mod ring;
 
 pub use arrived::Arrived;
 pub use record::PairRecord;
+pub use records::Records;
 pub use report::{BlockReport, Report};
-pub use ring::Records;

@@ -1,13 +1,12 @@
 // A pair on its way in. Its own frame begins the record with the range word and the checks, the next one brings half of the
 // words and the one after it the others; then the range word is mended and both blocks are judged, once.
 // Promise: at each step the record is the defined one, whatever the frames carry.
-ghost use Rattle.std.specs.Prelude.{◌≡◌, is_some, if◌then◌else◌, None};
+ghost use Rattle.std.specs.Prelude.{◌≡◌, ℕ};
 ghost use Rattle.guards.specs.Located.{outcome};
+ghost use Rattle.guards.specs.Mended.{range_found, ranges_told, numbers_of};
 ghost use Rattle.frames.specs.Content.{pair_in};
-ghost use Rattle.decoder.specs.Findings.{finding, tells_ranges};
 ghost use Rattle.decoder.specs.Received.{received};
-ghost use Rattle.decoder.specs.Verdicts.{first_that_applies};
-ghost use Rattle.reception.specs.Blocks.{guards_found};
+ghost use Rattle.reception.specs.Blocks.{judged};
 ghost use Rattle.reception.specs.Recording.{begun, followed, completed, unjudged as muted, no_words};
 ghost use Rattle.reception.specs.Records.{recorded, blank_record};
 
@@ -20,15 +19,20 @@ use guards::mending::{Told, mend};
 use guards::parities::block_syndrome;
 use guards::ranges::Ranges;
 
+/// What has arrived of a block: the checks first, then its words. It is muted until it is judged.
+#[derive(Clone, Copy)]
+pub struct BlockRecord {
+    pub(crate) checks: u8,
+    pub(crate) received: ReceivedBlock,
+}
+
 /// What has arrived of a pair.
 #[derive(Clone, Copy)]
 pub struct PairRecord {
     pub(crate) lost: bool,
     pub(crate) ranges: u16,
-    pub(crate) first_checks: u8,
-    pub(crate) second_checks: u8,
-    pub(crate) first: ReceivedBlock,
-    pub(crate) second: ReceivedBlock,
+    pub(crate) first: BlockRecord,
+    pub(crate) second: BlockRecord,
 }
 
 // A block before it is judged: until then it is muted.
@@ -42,28 +46,29 @@ fn unjudged(odd: OddWords, even: EvenWords) -> ReceivedBlock
     ReceivedBlock { judged, odd, even }
 }
 
-// A block of which no words have arrived.
-fn empty() -> ReceivedBlock
-    ensures { received result ≡ muted no_words no_words }
-{
-    let odd = OddWords { words: [0; HALF] };
-    let even = EvenWords { words: [0; HALF] };
-    unjudged(odd, even)
-}
+impl BlockRecord {
+    // A block of which nothing but its checks has arrived.
+    fn begun(checks: u8) -> BlockRecord
+        ensures checks { result.checks ≡ checks }
+        ensures received { received result.received ≡ muted no_words no_words }
+    {
+        let odd = OddWords { words: [0; HALF] };
+        let even = EvenWords { words: [0; HALF] };
+        BlockRecord {
+            checks,
+            received: unjudged(odd, even),
+        }
+    }
 
-// What is found of a block whose words have all arrived, with what was found of its range word and the ranges of its code.
-fn judged(
-    block: &ReceivedBlock,
-    checks: u8,
-    lost: bool,
-    found: Found,
-    ranges: Option<Ranges>,
-) -> Judged
-    ensures answer { finding result.verdict ≡ first_that_applies lost (outcome found) (is_some ranges) (guards_found block.now.odd.words block.now.even.words checks) }
-    ensures ranges { result.ranges ≡ (if tells_ranges (finding result.verdict) then ranges else None) }
-{
-    let syndrome = block_syndrome(&block.odd.words, &block.even.words, u32::from(checks));
-    judge(lost, found, ranges, locate(&GuardCode, syndrome))
+    // Judges a block whose words have all arrived, by what was found of its pair's range word and the ranges of its code.
+    fn judge(&mut self, lost: bool, found: Found, ranges: Option<Ranges>)
+        ensures checks { self.new.checks ≡ self.old.checks }
+        ensures received { (word block : ℕ) → outcome found ≡ range_found word → numbers_of ranges ≡ ranges_told word block → received self.new.received ≡ judged lost word block self.old.checks self.old.received.odd.words self.old.received.even.words }
+    {
+        let ReceivedBlock { odd, even, .. } = self.received;
+        let syndrome = block_syndrome(&odd.words, &even.words, u32::from(self.checks));
+        self.received.judged = judge(lost, found, ranges, locate(&GuardCode, syndrome));
+    }
 }
 
 impl PairRecord {
@@ -74,10 +79,8 @@ impl PairRecord {
         PairRecord {
             lost: false,
             ranges: 0,
-            first_checks: 0,
-            second_checks: 0,
-            first: empty(),
-            second: empty(),
+            first: BlockRecord::begun(0),
+            second: BlockRecord::begun(0),
         }
     }
 
@@ -88,10 +91,8 @@ impl PairRecord {
         PairRecord {
             lost: arrived.lost,
             ranges: arrived.frame.ranges,
-            first_checks: arrived.frame.first.checks,
-            second_checks: arrived.frame.second.checks,
-            first: empty(),
-            second: empty(),
+            first: BlockRecord::begun(arrived.frame.first.checks),
+            second: BlockRecord::begun(arrived.frame.second.checks),
         }
     }
 
@@ -100,8 +101,8 @@ impl PairRecord {
         ensures { recorded self.new ≡ followed arrived.now.lost (pair_in arrived.now.frame) (recorded self.old) }
     {
         self.lost |= arrived.lost;
-        self.first = unjudged(arrived.frame.first.odd, self.first.even);
-        self.second = unjudged(self.second.odd, arrived.frame.second.even);
+        self.first.received = unjudged(arrived.frame.first.odd, self.first.received.even);
+        self.second.received = unjudged(self.second.received.odd, arrived.frame.second.even);
     }
 
     /// The last frame, with the other words: the pair is complete, and judged.
@@ -109,14 +110,14 @@ impl PairRecord {
         ensures { recorded self.new ≡ completed arrived.now.lost (pair_in arrived.now.frame) (recorded self.old) }
     {
         self.lost |= arrived.lost;
-        self.first.even = arrived.frame.first.even;
-        self.second.odd = arrived.frame.second.odd;
+        self.first.received.even = arrived.frame.first.even;
+        self.second.received.odd = arrived.frame.second.odd;
         let Told {
             found,
             first,
             second,
         } = mend(self.ranges);
-        self.first.judged = judged(&self.first, self.first_checks, self.lost, found, first);
-        self.second.judged = judged(&self.second, self.second_checks, self.lost, found, second);
+        self.first.judge(self.lost, found, first);
+        self.second.judge(self.lost, found, second);
     }
 }

@@ -13,13 +13,14 @@ use Rattle.pairs.proofs.coding.code.Goals as goal
 
 -- a block with its guards is what its code asks for
 pub record Kept (g : GuardedBlock) (b : CodedBlock) : Type 0 where
-  pub words : (g.odd ≡ b.odd) × (g.even ≡ b.even)
+  pub odd : g.odd ≡ b.odd
+  pub even : g.even ≡ b.even
   pub checks : g.checks ≡ checks_of (parities (word_in g))
 
 words_kept : (g : GuardedBlock) (b : CodedBlock) → Kept g b → word_in g ≡ words_of (code_of b)
 words_kept g b k =
-    ap (λ o. word_in (record { odd = o; even = g.even; checks = g.checks; five = g.five })) k.words.0
-    ∙ ap (λ e. word_in (record { odd = b.odd; even = e; checks = g.checks; five = g.five })) k.words.1
+    ap (λ o. word_in (record { odd = o; even = g.even; checks = g.checks; five = g.five })) k.odd
+    ∙ ap (λ e. word_in (record { odd = b.odd; even = e; checks = g.checks; five = g.five })) k.even
 
 -- a pair by its parts
 abbrev shaped : ℕ → (ℕ → ℕ) → (ℕ → ℕ) → ℕ → ℕ → Pair
@@ -51,8 +52,8 @@ unfolding sent_pair
 returns c =
     let b = c.encode-first.result in
     let d = c.encode-second.result in
-    let kg : Kept c.guarded.result b = record { words = c.guarded.ensures.words; checks = c.guarded.ensures.checks } in
-    let kh : Kept c.guarded-2.result d = record { words = c.guarded-2.ensures.words; checks = c.guarded-2.ensures.checks } in
+    let kg : Kept c.guarded.result b = record { odd = c.guarded.ensures.odd; even = c.guarded.ensures.even; checks = c.guarded.ensures.checks } in
+    let kh : Kept c.guarded-2.result d = record { odd = c.guarded-2.ensures.odd; even = c.guarded-2.ensures.even; checks = c.guarded-2.ensures.checks } in
     let x : code_of b ≡ code (first_block c.args.pair.now.samples) = c.encode-first.ensures.value ∙ ap code c.first_block.ensures in
     let y : code_of d ≡ code (second_block c.args.pair.now.samples c.args.next.now.samples) = c.encode-second.ensures.value ∙ ap code c.second_block.ensures in
     joined c.range_word.result c.guarded.result c.guarded-2.result b d kg kh c.range_word.ensures.value

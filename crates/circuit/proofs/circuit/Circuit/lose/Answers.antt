@@ -1,8 +1,7 @@
-use Rattle.std.proofs.Common.{None, refl, ap, ◌∙◌}
-use Rattle.words.specs.Answers.{Answer}
+use Rattle.std.proofs.Common.{None, refl}
 use Rattle.circuit.specs.Faults.{answer}
-use Rattle.circuit.specs.Taking.{Outcome, sink_of, outcome, losing}
-use Rattle.circuit.specs.History.{loses, take_seen}
+use Rattle.circuit.specs.Taking.{sink_of, outcome}
+use Rattle.circuit.specs.History.{loses}
 use Rattle.circuit.proofs.Last.{gives_next}
 use Rattle.circuit.proofs.circuit.Circuit.lose.Goals as goal
 
@@ -18,6 +17,5 @@ returns g c =
       sender = refl;
       outlet = c.lose.ensures.outlet;
       next = gives_next o s (loses words) None (outcome (answer c.lose.result)) c.lose.new.words
-          (ap (λ (a : Answer Outcome). take_seen a None c.lose.new.words) c.lose.ensures.answer
-          ∙ ap (take_seen (losing o s words).answer None) c.lose.ensures.buffer);
+          (let answered = c.lose.ensures.answer in let written = c.lose.ensures.buffer in cc);
     }

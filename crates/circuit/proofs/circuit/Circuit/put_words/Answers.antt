@@ -1,10 +1,8 @@
-use Rattle.std.proofs.Common.{map, refl, ap, ◌∙◌}
-use Rattle.words.specs.Answers.{Answer}
+use Rattle.std.proofs.Common.{map, refl}
 use Rattle.words.specs.Meaning.{middle}
-use Rattle.circuit.specs.declared.sent.Sent.{Sent}
 use Rattle.circuit.specs.Faults.{answer}
-use Rattle.circuit.specs.Putting.{source_of, putting_words}
-use Rattle.circuit.specs.History.{puts_words, put_seen}
+use Rattle.circuit.specs.Putting.{source_of}
+use Rattle.circuit.specs.History.{puts_words}
 use Rattle.circuit.proofs.Last.{writes_next}
 use Rattle.circuit.proofs.circuit.Circuit.put_words.Goals as goal
 
@@ -21,6 +19,5 @@ returns g c =
       answer = c.put_words.ensures.answer;
       receiver = refl;
       next = writes_next s (puts_words law words frame) pair (answer c.put_words.result) c.put_words.new.frame
-          (ap (λ (a : Answer Sent). put_seen a pair c.put_words.new.frame) c.put_words.ensures.answer
-          ∙ ap (put_seen (putting_words s frame law words).answer pair) c.put_words.ensures.buffer);
+          (let answered = c.put_words.ensures.answer in let written = c.put_words.ensures.buffer in cc);
     }

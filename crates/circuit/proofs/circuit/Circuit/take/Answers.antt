@@ -1,8 +1,7 @@
-use Rattle.std.proofs.Common.{Some, refl, ap, ◌∙◌}
-use Rattle.words.specs.Answers.{Answer}
+use Rattle.std.proofs.Common.{Some, refl}
 use Rattle.circuit.specs.Faults.{answer}
-use Rattle.circuit.specs.Taking.{Outcome, sink_of, outcome, taking}
-use Rattle.circuit.specs.History.{takes, take_seen}
+use Rattle.circuit.specs.Taking.{sink_of, outcome}
+use Rattle.circuit.specs.History.{takes}
 use Rattle.circuit.proofs.Last.{gives_next}
 use Rattle.circuit.proofs.circuit.Circuit.take.Goals as goal
 
@@ -19,6 +18,5 @@ returns g c =
       sender = refl;
       outlet = c.take.ensures.outlet;
       next = gives_next o s (takes octets words) (Some octets) (outcome (answer c.take.result)) c.take.new.words
-          (ap (λ (a : Answer Outcome). take_seen a (Some octets) c.take.new.words) c.take.ensures.answer
-          ∙ ap (take_seen (taking o s words octets).answer (Some octets)) c.take.ensures.buffer);
+          (let answered = c.take.ensures.answer in let written = c.take.ensures.buffer in cc);
     }

@@ -1,6 +1,6 @@
-use Rattle.std.proofs.Common.{ℕ, List, ap, ◌∙◌}
+use Rattle.std.proofs.Common.{ℕ, List, refl, ap, ◌∙◌}
 use Rattle.reception.specs.Recording.{unjudged}
-use Rattle.reception.proofs.Pairs.{same_blocks}
+use Rattle.reception.proofs.Pairs.{same_pair}
 use Rattle.reception.proofs.Words.{odd_first, even_second}
 use Rattle.reception.proofs.record.PairRecord.follow.Goals as goal
 
@@ -8,6 +8,6 @@ pub returns : goal.returns
 returns c =
     let self = c.args.self.now in
     let frame = c.args.arrived.now.frame in
-    same_blocks _ _ _ _
-    (c.unjudged-self.ensures ∙ ap (λ (ws : List ℕ). unjudged ws self.first.even.words) (odd_first frame))
-    (c.unjudged-self-2.ensures ∙ ap (unjudged self.second.odd.words) (even_second frame))
+    same_pair _ refl refl refl
+    (c.unjudged-self.ensures ∙ ap (λ (ws : List ℕ). unjudged ws self.first.received.even.words) (odd_first frame))
+    (c.unjudged-self-2.ensures ∙ ap (unjudged self.second.received.odd.words) (even_second frame))

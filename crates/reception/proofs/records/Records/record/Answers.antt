@@ -1,6 +1,6 @@
 use Rattle.frames.specs.Content.{pair_in}
 use Rattle.reception.proofs.Turning.{Turned, turned, still_four}
-use Rattle.reception.proofs.records.record.Goals as goal
+use Rattle.reception.proofs.records.Records.record.Goals as goal
 
 step : (c : goal.After-index-slots-at-3) → Turned c.args.arrived.now.lost (pair_in c.args.arrived.now.frame) c.args.at c.args.slots.now
     c.index-slots-at.result c.index-slots-at-2.result c.follow.new.self c.complete.new.self c.begun.result

@@ -1,7 +1,7 @@
 use Rattle.std.proofs.Common.{◌≡◌, length, ap, ◌∙◌}
 use Rattle.circuit.specs.Putting.{Put, source_of, measuring, valued, putting}
 use Rattle.circuit.proofs.Measured.{measured, let_through}
-use Rattle.circuit.proofs.sent.Sender.put.Goals as goal
+use Rattle.circuit.proofs.sender.Sender.put.Goals as goal
 
 pub widen-requires : goal.widen-requires
 widen-requires c = (measured (length c.args.samples.now) (length c.args.frame.now) _ c.in_ok-measure.ensures).1

@@ -1,7 +1,7 @@
 use Rattle.std.proofs.Common.{◌∙◌}
 use Rattle.reception.specs.Records.{recent_of}
 use Rattle.reception.proofs.Listing.{arrive_carried}
-use Rattle.reception.proofs.ring.Records.arrive.Goals as goal
+use Rattle.reception.proofs.records.Records.arrive.Goals as goal
 
 pub returns : goal.returns
 returns c = record {

@@ -2,7 +2,7 @@ use Rattle.std.proofs.Common.{◌≡◌, length, Some, ap, ◌∙◌}
 use Rattle.frames.specs.Answers.{reading}
 use Rattle.circuit.specs.Taking.{Took, sink_of, measuring, arriving, by_reading, taking}
 use Rattle.circuit.proofs.Answering.{measured, let_through}
-use Rattle.circuit.proofs.held.Receiver.take.Goals as goal
+use Rattle.circuit.proofs.receiver.Receiver.take.Goals as goal
 
 pub arrive-requires : goal.arrive-requires
 arrive-requires g c = measured (length c.args.words.now) _ c.in_ok-measure.ensures

@@ -1,7 +1,7 @@
 use Rattle.std.proofs.Common.{◌≡◌, length, None, ap, ◌∙◌}
 use Rattle.circuit.specs.Taking.{Took, sink_of, measuring, arriving, losing}
 use Rattle.circuit.proofs.Answering.{measured, let_through}
-use Rattle.circuit.proofs.held.Receiver.lose.Goals as goal
+use Rattle.circuit.proofs.receiver.Receiver.lose.Goals as goal
 
 pub arrive-requires : goal.arrive-requires
 arrive-requires g c = measured (length c.args.words.now) _ c.in_ok-measure.ensures

@@ -2,12 +2,11 @@ use Rattle.std.proofs.Common.{◌≡◌, ℕ, ◌+◌, ◌%◌, cond, eqb, map, 
 use Rattle.std.proofs.lemmas.List.{get_or-map}
 use Rattle.words.specs.Meaning.{Meaning}
 use Rattle.reception.specs.declared.record.PairRecord.{PairRecord}
-use Rattle.reception.specs.declared.ring.Records.{Records}
-use Rattle.reception.specs.Recording.{Recorded}
+use Rattle.reception.specs.declared.records.Records.{Records}
 use Rattle.reception.specs.Given.{PairGiven, giving}
 use Rattle.reception.specs.Records.{recorded, blank_record, recent_of, oldest_given}
 use Rattle.reception.specs.Reports.{report_told}
-use Rattle.reception.proofs.ring.Records.give.Goals as goal
+use Rattle.reception.proofs.records.Records.give.Goals as goal
 
 oldest : (rs : Records) (d : PairRecord) → recorded (get_or rs.slots rs.at d) ≡ get_or (recent_of rs) 3 blank_record
 oldest rs d =
@@ -19,8 +18,9 @@ next_newer rs d = sym (get_or-map recorded rs.slots ((rs.at + 1) % 4) d blank_re
 
 given_alike : (m : Meaning) (rs : Records) (d e : PairRecord) → giving m (recorded (get_or rs.slots rs.at d)).first (recorded (get_or rs.slots rs.at d)).second (recorded (get_or rs.slots ((rs.at + 1) % 4) e)).first ≡ oldest_given m (recent_of rs)
 given_alike m rs d e =
-    ap (λ (r : Recorded). giving m r.first r.second (recorded (get_or rs.slots ((rs.at + 1) % 4) e)).first) (oldest rs d)
-    ∙ ap (λ (r : Recorded). giving m (get_or (recent_of rs) 3 blank_record).first (get_or (recent_of rs) 3 blank_record).second r.first) (next_newer rs e)
+    let first = oldest rs d in
+    let next = next_newer rs e in
+    cc
 
 pub returns : goal.returns
 returns g c =

@@ -5,7 +5,7 @@ use Rattle.words.specs.Lists.{first_refused}
 use Rattle.words.specs.Meaning.{middle}
 use Rattle.circuit.specs.Putting.{Put, source_of, measuring, unless_refused, valued, putting_words}
 use Rattle.circuit.proofs.Measured.{measured, let_through}
-use Rattle.circuit.proofs.sent.Sender.put_words.Goals as goal
+use Rattle.circuit.proofs.sender.Sender.put_words.Goals as goal
 
 pub put_values-requires : goal.put_values-requires
 put_values-requires g c = (measured (length c.args.words.now) (length c.args.frame.now) _ c.in_ok-measure.ensures).0

@@ -6,7 +6,7 @@ use Rattle.pairs.specs.declared.pair.Pair.{Pair as Samples}
 use Rattle.pairs.specs.Sending.{sent_pair}
 use Rattle.circuit.specs.Putting.{Put, accepting, samples_of, source_of}
 use Rattle.circuit.proofs.Weaving.{frame_from_lists}
-use Rattle.circuit.proofs.sent.Sender.accept.Goals as goal
+use Rattle.circuit.proofs.sender.Sender.accept.Goals as goal
 
 pub returns-in-Some : goal.returns-in-Some
 returns-in-Some c =

@@ -5,7 +5,7 @@ use Rattle.decoder.specs.Findings.{Finding, mutes, finding}
 use Rattle.fidelity.specs.Kept.{unmarked}
 use Rattle.circuit.specs.declared.taken.Taken.{Taken}
 use Rattle.circuit.specs.declared.taken.Taken.TheVariants.{Early, Given}
-use Rattle.listening.specs.declared.receiving.Outcome.{Outcome}
+use Rattle.telling.specs.declared.outcome.Outcome.{Outcome}
 use Rattle.j43receive.specs.declared.counts.Counts.{Counts}
 
 abbrev pub fresh : Counts
@@ -33,13 +33,13 @@ unsound_in Early = 0
 unsound_in (Given report) = unmarked report.first.marks + unmarked report.second.marks
 
 -- One frame more.
-abbrev pub noted : Counts → Outcome → Counts
+abbrev pub noted : Counts → Outcome Taken → Counts
 noted c o = record {
   frames = c.frames + 1;
   lost = c.lost + refusals o.refused;
-  pairs = c.pairs + given o.taken;
-  muted = c.muted + muted_in o.taken;
-  unsound = c.unsound + unsound_in o.taken;
+  pairs = c.pairs + given o.done;
+  muted = c.muted + muted_in o.done;
+  unsound = c.unsound + unsound_in o.done;
 }
 
 -- No count is more than the frames allow.

@@ -7,8 +7,8 @@ ghost use Rattle.j43receive.specs.Counts.{fresh, silenced, noted, Within, line};
 use blocks::BLOCK;
 use circuit::Taken;
 use decoder::Verdict;
-use listening::Outcome;
 use std::fmt;
+use telling::Outcome;
 
 /// The counts so far.
 #[derive(Clone, Copy)]
@@ -65,7 +65,7 @@ impl Counts {
     }
 
     /// Counts a frame by what became of it.
-    pub(crate) fn note(&mut self, outcome: &Outcome)
+    pub(crate) fn note(&mut self, outcome: &Outcome<Taken>)
         requires few_frames { self.old.frames + 1 < 2 ^ 58 }
         requires within { Within self.old }
         ensures counts { self.new ≡ noted self.old outcome.now }
@@ -75,7 +75,7 @@ impl Counts {
         if outcome.refused.is_some() {
             self.lost += 1;
         }
-        if let Taken::Given(report) = outcome.taken {
+        if let Taken::Given(report) = outcome.done {
             self.pairs += 1;
             self.muted += silenced(report.first.verdict) + silenced(report.second.verdict);
             self.unsound += unsound(&report.first.marks) + unsound(&report.second.marks);

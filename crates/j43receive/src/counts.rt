@@ -1,8 +1,8 @@
 // What arrived and what came of it, in the last line on standard error.
 ghost use Rattle.std.specs.Prelude.{◌≡◌, ◌+◌, ◌^◌, ◌<◌, ◌≤◌, Some};
-ghost use Rattle.decoder.specs.Findings.{finding};
+ghost use Rattle.decoder.specs.Findings.{mutes, finding};
 ghost use Rattle.fidelity.specs.Kept.{unmarked};
-ghost use Rattle.j43receive.specs.Counts.{fresh, silenced, noted, Within, line};
+ghost use Rattle.j43receive.specs.Counts.{fresh, noted, Within, line};
 
 use blocks::BLOCK;
 use circuit::Taken;
@@ -25,15 +25,11 @@ pub struct Counts {
     pub unsound: u64,
 }
 
-// Counts a muted block.
-fn silenced(verdict: Verdict) -> u64
-    ensures value { result ≡ silenced (finding verdict) }
-    ensures small { result ≤ 1 }
+// Whether a block was muted.
+fn muted(verdict: Verdict) -> bool
+    ensures value { result ≡ mutes (finding verdict) }
 {
-    match verdict {
-        Verdict::Mute(_) => 1,
-        _ => 0,
-    }
+    matches!(verdict, Verdict::Mute(_))
 }
 
 // Counts the samples that have no mark.
@@ -41,13 +37,7 @@ fn unsound(marks: &[bool; BLOCK]) -> u64
     ensures value { result ≡ unmarked marks.now }
     ensures small { result ≤ 32 }
 {
-    let mut count = 0;
-    for i in 0..BLOCK {
-        if !marks[i] {
-            count += 1;
-        }
-    }
-    count
+    marks.iter().filter(|mark| !**mark).count() as u64
 }
 
 impl Counts {
@@ -77,7 +67,7 @@ impl Counts {
         }
         if let Taken::Given(report) = outcome.done {
             self.pairs += 1;
-            self.muted += silenced(report.first.verdict) + silenced(report.second.verdict);
+            self.muted += u64::from(muted(report.first.verdict)) + u64::from(muted(report.second.verdict));
             self.unsound += unsound(&report.first.marks) + unsound(&report.second.marks);
         }
     }

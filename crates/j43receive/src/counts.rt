@@ -55,6 +55,7 @@ impl Counts {
     }
 
     /// Counts a frame by what became of it.
+    // `Within` is no ghost field, since each record that `noted` writes down would then carry proofs.
     pub(crate) fn note(&mut self, outcome: &Outcome<Taken>)
         requires few_frames { self.old.frames + 1 < 2 ^ 58 }
         requires within { Within self.old }

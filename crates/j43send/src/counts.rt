@@ -30,6 +30,7 @@ impl Counts {
     }
 
     /// Counts a pair by what became of it.
+    // `Within` is no ghost field, since the frames after the last pair come on top.
     pub(crate) fn note(&mut self, outcome: &Outcome<Sent>)
         requires few_pairs { self.old.pairs < 2 ^ 57 }
         requires within { Within self.old }

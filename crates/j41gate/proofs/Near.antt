@@ -1,6 +1,6 @@
 -- No sample of variant B is moved by more than 16.
 use Rattle.std.proofs.Common.{◌≡◌, ℕ, zero, suc, ◌+◌, ◌-◌, ◌*◌, ◌/◌, ◌<◌, ◌≤◌, Bool, true, ◌&&◌, ltb, List, [], ◌∷◌, length, ℤ, pos, negsuc, ◌+ℤ◌, is_ok, Ok, Err, Result, sym, refl, ap, ◌∙◌, arith}
-use Rattle.std.specs.List.{AllByRecursion}
+use Rattle.std.specs.List.{All}
 use Rattle.std.proofs.lemmas.Int.{ints}
 use Rattle.std.proofs.lemmas.Bool.{cond-true, eq-eqb}
 use Rattle.std.proofs.lemmas.Bool.Decides.{nat_tests, Decides-ltb, Decides-below_and}
@@ -46,13 +46,12 @@ near_one (negsuc a) e =
     let n = moved_small negsuc negative a lt in
     omega (arith, moved_by_is (negsuc a))
 
-near_each : (vs : List ℤ) (i : ℕ) → first_refused (unmade variant_b) i vs ≡ gives tt → AllByRecursion (λ v. moved variant_b v ≤ 16) vs
-near_each [] i e = tt
-near_each (v ∷ vs) i e = (
-  near_one v (let z : unmade variant_b v ≡ 0 = grind (arith, nat_tests) in z),
-  near_each vs (i + 1) (let t : first_refused (unmade variant_b) (i + 1) vs ≡ gives tt = grind (arith, nat_tests) in t),
-)
+near_each : (vs : List ℤ) (i : ℕ) → first_refused (unmade variant_b) i vs ≡ gives tt → All (λ v. moved variant_b v ≤ 16) vs
+near_each [] i e k d h = absurd (omega arith)
+near_each (v ∷ vs) i e zero d h = near_one v (let z : unmade variant_b v ≡ 0 = grind (arith, nat_tests) in z)
+near_each (v ∷ vs) i e (suc k) d h =
+    near_each vs (i + 1) (let t : first_refused (unmade variant_b) (i + 1) vs ≡ gives tt = grind (arith, nat_tests) in t) k d (omega arith)
 
-pub near_all : (r : Result (Unit {0}) WordFault) (vs : List ℤ) → length vs ≡ 64 → answer r ≡ making_all variant_b vs 64 → is_ok r ≡ true → AllByRecursion (λ v. moved variant_b v ≤ 16) vs
+pub near_all : (r : Result (Unit {0}) WordFault) (vs : List ℤ) → length vs ≡ 64 → answer r ≡ making_all variant_b vs 64 → is_ok r ≡ true → All (λ v. moved variant_b v ≤ 16) vs
 near_all (Ok x) vs n a o = near_each vs 0 (sym (a ∙ cond-true _ _ _ (eq-eqb 64 (length vs) (sym n))))
 near_all (Err f) vs n a o = absurd (let z : ◌≡◌ {A = ℕ} 0 1 = cc in omega arith)

@@ -1,7 +1,6 @@
 -- What crosses the border, by the octets of a pair on both sides.
 use Rattle.std.specs.Prelude.{ℕ, List, map, replicate, ℤ, pos}
-use Rattle.std.proofs.Common.{to_z, of_z}
-use Rattle.std.specs.Int.{w16}
+use Rattle.std.specs.Int.{w16, cast_signed, cast_unsigned}
 use Rattle.raw.specs.Octets.{numbers_in, octets_in}
 use Rattle.words.specs.Answers.{Answer}
 use Rattle.words.specs.Lists.{making_all, reading_all}
@@ -12,10 +11,10 @@ use Rattle.j41gate.specs.declared.crossing.Direction.TheVariants.{Encode, Decode
 
 -- Samples are signed numbers of 16 bits, words unsigned ones.
 abbrev pub samples_in : List ℕ → List ℤ
-samples_in octets = map (to_z w16) (numbers_in octets)
+samples_in octets = map (cast_signed w16) (numbers_in octets)
 
 abbrev pub sample_octets : List ℤ → List ℕ
-sample_octets samples = octets_in (map (of_z w16) samples)
+sample_octets samples = octets_in (map (cast_unsigned w16) samples)
 
 -- Whether the pair crosses, or why not.
 abbrev pub crossing : Direction → List ℕ → Answer (Unit {0})

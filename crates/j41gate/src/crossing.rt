@@ -21,6 +21,7 @@ pub fn cross(direction: Direction, octets: &mut [u8; PAIR_OCTETS]) -> Result<(),
     ensures answer { answer result ≡ crossing direction octets.old }
     ensures buffer { octets.new ≡ (if is_ok result then crossed direction octets.old else silence direction) }
 {
+    // The arms differ in types and calls: one generic function would ask clauses of a closure, and be longer.
     match direction {
         Direction::Encode => {
             let mut words = [0; PAIR];

@@ -2,7 +2,7 @@
 // A refused pair leaves as silence, so that what follows it keeps its time.
 ghost use Rattle.std.specs.Prelude.{◌≡◌, ℕ, ◌<◌, ◌≤◌, true, map, replicate, pos, is_ok, if◌then◌else◌, FitsSigned, slice_index_or};
 ghost use Rattle.std.specs.Int.{w16};
-ghost use Rattle.std.specs.List.{AllByRecursion};
+ghost use Rattle.std.specs.List.{All};
 ghost use Rattle.words.specs.Answers.{answer};
 ghost use Rattle.words.specs.Lists.{making_all, reading_all};
 ghost use Rattle.words.specs.Meaning.{middle};
@@ -20,6 +20,7 @@ pub(crate) fn widen(samples: &[i16; PAIR]) -> [i32; PAIR]
     ensures { result ≡ samples.now }
 {
     let mut values = [0; PAIR];
+    // Tried by `map`: its calls are not known to be of numbers of 16 bits, so that the proof did not close.
     for (i, sample) in samples.iter().enumerate() {
         values[i] = i32::from(*sample);
     }
@@ -32,6 +33,7 @@ fn narrow(values: &[i32; PAIR]) -> [i16; PAIR]
     ensures { result ≡ values.now }
 {
     let mut samples = [0; PAIR];
+    // Tried by `map`: its calls are not known to be of numbers that fit, so that the proof did not close.
     for (i, value) in values.iter().enumerate() {
         samples[i] = *value as i16;
     }
@@ -43,7 +45,7 @@ fn narrow(values: &[i32; PAIR]) -> [i16; PAIR]
 pub fn encode(samples: &[i16; PAIR], words: &mut [u16; PAIR]) -> Result<(), WordFault>
     ensures answer { answer result ≡ making_all variant_b samples.now 64 }
     ensures buffer { words.new ≡ (if is_ok result then map gate_word samples.now else replicate 64 (gate_word (pos 0))) }
-    ensures near { is_ok result ≡ true → AllByRecursion (λ v. moved variant_b v ≤ 16) samples.now }
+    ensures near { is_ok result ≡ true → All (λ v. moved variant_b v ≤ 16) samples.now }
 {
     *words = [SILENT_WORD; PAIR];
     compand(&VariantB, &widen(samples), words)

@@ -2,14 +2,14 @@
 // standard input; the work on a pair is in functions with contracts, and this file only joins them.
 #![tactic(auto)]
 
-use crate::failure::Failure;
 use crate::task::Task;
+use anyhow::bail;
 use std::process::ExitCode;
 use std::{env, io};
+use telling::ended;
 use words::VariantB;
 
 mod crossing;
-mod failure;
 mod gate;
 mod streams;
 mod tally;
@@ -21,23 +21,18 @@ fn asked(rt: &HostRuntime) -> io::Result<Option<Task>> {
     Ok(task::task_of(&arguments))
 }
 
-fn run(rt: &HostRuntime) -> Result<(), Failure> {
+fn run(rt: &HostRuntime) -> anyhow::Result<()> {
     match asked(rt)? {
-        None => Err(Failure::Usage),
-        Some(Task::Report) => Ok(streams::report(rt, &VariantB)?),
+        None => bail!("usage: j41gate [encode | decode] < INPUT"),
+        Some(Task::Report) => streams::report(rt, &VariantB)?,
         Some(Task::Cross(direction)) => match streams::cross_all(rt, direction)? {
-            0 => Ok(()),
-            pairs => Err(Failure::Refused(pairs)),
+            0 => {}
+            pairs => bail!("refused {pairs}"),
         },
     }
+    Ok(())
 }
 
 fn main(rt: HostRuntime) -> io::Result<ExitCode> {
-    match run(&rt) {
-        Ok(()) => Ok(ExitCode::SUCCESS),
-        Err(failure) => {
-            eprintln!(rt; "{failure}")?;
-            Ok(ExitCode::FAILURE)
-        }
-    }
+    ended(&rt, run(&rt))
 }

@@ -3,7 +3,7 @@
 use crate::crossing::{Direction, cross};
 use crate::tally::Tally;
 use crate::trial::pass;
-use raw::{PAIR_OCTETS, fill, read_pair};
+use raw::{PAIR_OCTETS, Units, read_pair};
 use std::io;
 use std::io::Write;
 use telling::{RefusedUnit, Unit};
@@ -17,16 +17,10 @@ const MOST_TOLD: u64 = 5;
 
 /// Tries the gate on every pair of samples, and reports.
 pub(crate) fn report<L: WordLaw>(rt: &HostRuntime, law: &L) -> io::Result<()> {
-    let mut input = rt.stdin();
-    let mut octets = [0; PAIR_OCTETS];
+    let mut units = Units::new(rt.stdin());
     let mut tally = Tally::new(law);
-    let mut got = 0;
-    for pair in 0..MOST_PAIRS {
-        got = fill(&mut input, &mut octets)?;
-        if got < PAIR_OCTETS {
-            break;
-        }
-        let outcome = pass(law, &read_pair(&octets));
+    for (pair, octets) in (0..MOST_PAIRS).zip(&mut units) {
+        let outcome = pass(law, &read_pair(&octets?));
         if let Err(fault) = outcome
             && tally.refused < MOST_TOLD
         {
@@ -37,24 +31,19 @@ pub(crate) fn report<L: WordLaw>(rt: &HostRuntime, law: &L) -> io::Result<()> {
     }
     println!(rt; "{tally}")?;
     // an incomplete pair
-    if got % PAIR_OCTETS > 0 {
-        println!(rt; "short {got}")?;
+    if units.short() > 0 {
+        println!(rt; "short {}", units.short())?;
     }
     Ok(())
 }
 
 /// Takes every pair across, and says how many were refused.
 pub(crate) fn cross_all(rt: &HostRuntime, direction: Direction) -> io::Result<u64> {
-    let mut input = rt.stdin();
+    let mut units = Units::new(rt.stdin());
     let mut output = rt.stdout();
-    let mut octets = [0; PAIR_OCTETS];
     let mut refused = 0;
-    let mut got = 0;
-    for pair in 0..MOST_PAIRS {
-        got = fill(&mut input, &mut octets)?;
-        if got < PAIR_OCTETS {
-            break;
-        }
+    for (pair, octets) in (0..MOST_PAIRS).zip(&mut units) {
+        let mut octets = octets?;
         if let Err(fault) = cross(direction, &mut octets) {
             refused += 1;
             let told = RefusedUnit::new(Unit::Pair, pair, fault.into());
@@ -63,8 +52,8 @@ pub(crate) fn cross_all(rt: &HostRuntime, direction: Direction) -> io::Result<u6
         output.write_all(&octets)?;
     }
     // an incomplete pair
-    if got % PAIR_OCTETS > 0 {
-        eprintln!(rt; "short {got}")?;
+    if units.short() > 0 {
+        eprintln!(rt; "short {}", units.short())?;
     }
     Ok(refused)
 }

@@ -13,8 +13,8 @@ fn farthest(values: &[i32; PAIR], back: &[i32; PAIR]) -> u32
     ensures { result ≡ largest (distances values.now back.now) }
 {
     let mut most = 0u32;
-    for i in 0..PAIR {
-        most = most.max(values[i].abs_diff(back[i]));
+    for (value, read) in values.iter().zip(back) {
+        most = most.max(value.abs_diff(*read));
     }
     most
 }

@@ -2,28 +2,23 @@
 // this program only joins reading and writing.
 #![tactic(auto)]
 
-use crate::failure::Failure;
 use crate::streams::log_all;
+use anyhow::ensure;
 use std::process::ExitCode;
 use std::{env, io};
+use telling::ended;
 
-mod failure;
 mod streams;
 
-fn run(rt: &HostRuntime) -> Result<(), Failure> {
-    if env::args(rt)?.skip(1).next().is_some() {
-        return Err(Failure::Usage);
-    }
+fn run(rt: &HostRuntime) -> anyhow::Result<()> {
+    ensure!(
+        env::args(rt)?.nth(1).is_none(),
+        "usage: j43log < FRAMES > LOG"
+    );
     log_all(rt)?;
     Ok(())
 }
 
 fn main(rt: HostRuntime) -> io::Result<ExitCode> {
-    match run(&rt) {
-        Ok(()) => Ok(ExitCode::SUCCESS),
-        Err(failure) => {
-            eprintln!(rt; "{failure}")?;
-            Ok(ExitCode::FAILURE)
-        }
-    }
+    ended(&rt, run(&rt))
 }

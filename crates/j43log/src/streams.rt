@@ -1,10 +1,9 @@
 // The program's loop over standard input, a frame at a time: each pair's lines are written as soon as it is given, so that a live
 // line is logged as it runs.
 use circuit::Receiver;
-use frames::FRAME_OCTETS;
 use linelog::{LOG_OCTETS, PairNumber, log};
 use listening::receive;
-use raw::{PAIR, fill};
+use raw::{PAIR, Units};
 use reception::Report;
 use std::io;
 use std::io::Write;
@@ -35,29 +34,23 @@ fn write_lines(output: &mut impl Write, report: &Report, pair: u32) -> io::Resul
 
 /// Logs each pair that the frames give.
 pub(crate) fn log_all(rt: &HostRuntime) -> io::Result<()> {
-    let mut input = rt.stdin();
+    let mut units = Units::new(rt.stdin());
     let mut output = rt.stdout();
     let mut receiver = Receiver::new(Linear);
-    let mut octets = [0; FRAME_OCTETS];
     let mut words = [0; PAIR];
-    let mut got = 0;
-    for frame in 0..MOST_FRAMES {
-        got = fill(&mut input, &mut octets)?;
-        if got < FRAME_OCTETS {
-            break;
-        }
-        let outcome = receive(&mut receiver, &octets, &mut words);
+    for (frame, octets) in (0..MOST_FRAMES).zip(&mut units) {
+        let outcome = receive(&mut receiver, &octets?, &mut words);
         if let Some(refusal) = outcome.refused {
             let told = RefusedUnit::new(Unit::Frame, u64::from(frame), refusal);
             eprintln!(rt; "{told}")?;
         }
-        if let Some(report) = outcome.taken {
+        if let Some(report) = outcome.done {
             write_lines(&mut output, &report, frame.saturating_sub(FRAMES_AFTER))?;
         }
     }
     // an incomplete frame
-    if got % FRAME_OCTETS > 0 {
-        println!(rt; "short {got}")?;
+    if units.short() > 0 {
+        println!(rt; "short {}", units.short())?;
     }
     Ok(())
 }

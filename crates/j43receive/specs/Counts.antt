@@ -4,7 +4,7 @@ use Rattle.words.specs.declared.faults.Refusal.{Refusal}
 use Rattle.decoder.specs.Findings.{Finding, mutes, finding}
 use Rattle.fidelity.specs.Kept.{unmarked}
 use Rattle.reception.specs.declared.report.Report.{Report}
-use Rattle.listening.specs.declared.receiving.Outcome.{Outcome}
+use Rattle.telling.specs.declared.outcome.Outcome.{Outcome}
 use Rattle.j43receive.specs.declared.counts.Counts.{Counts}
 
 abbrev pub fresh : Counts
@@ -32,13 +32,13 @@ unsound_in None = 0
 unsound_in (Some report) = unmarked report.first.marks + unmarked report.second.marks
 
 -- One frame more.
-abbrev pub noted : Counts → Outcome → Counts
+abbrev pub noted : Counts → Outcome (Option Report) → Counts
 noted c o = record {
   frames = c.frames + 1;
   lost = c.lost + refusals o.refused;
-  pairs = c.pairs + given o.taken;
-  muted = c.muted + muted_in o.taken;
-  unsound = c.unsound + unsound_in o.taken;
+  pairs = c.pairs + given o.done;
+  muted = c.muted + muted_in o.done;
+  unsound = c.unsound + unsound_in o.done;
 }
 
 -- No count is more than the frames allow.

@@ -1,7 +1,6 @@
 -- Samples from words of the linear law, and their octets in a raw file.
 use Rattle.std.specs.Prelude.{ℕ, cond, List, map, ℤ, pos, ◌==◌}
-use Rattle.std.proofs.Common.{of_z}
-use Rattle.std.specs.Int.{w16}
+use Rattle.std.specs.Int.{w16, cast_unsigned}
 use Rattle.raw.specs.Octets.{octets_in}
 use Rattle.words.specs.Linear.{linear}
 use Rattle.words.specs.Meaning.{middle}
@@ -11,4 +10,4 @@ abbrev pub sample_of : ℕ → ℤ
 sample_of w = cond (linear.refusal w == 0) (middle linear w) (pos 0)
 
 abbrev pub sample_octets : List ℤ → List ℕ
-sample_octets samples = octets_in (map (of_z w16) samples)
+sample_octets samples = octets_in (map (cast_unsigned w16) samples)

@@ -1,13 +1,14 @@
 // What arrived and what came of it, in the last line on standard error.
 ghost use Rattle.std.specs.Prelude.{◌≡◌, ◌+◌, ◌^◌, ◌<◌, ◌≤◌, Some};
-ghost use Rattle.decoder.specs.Findings.{finding};
+ghost use Rattle.decoder.specs.Findings.{mutes, finding};
 ghost use Rattle.fidelity.specs.Kept.{unmarked};
-ghost use Rattle.j43receive.specs.Counts.{fresh, silenced, noted, Within, line};
+ghost use Rattle.j43receive.specs.Counts.{fresh, noted, Within, line};
 
 use blocks::BLOCK;
 use decoder::Verdict;
-use listening::Outcome;
+use reception::Report;
 use std::fmt;
+use telling::Outcome;
 
 /// The counts so far.
 #[derive(Clone, Copy)]
@@ -24,15 +25,11 @@ pub struct Counts {
     pub unsound: u64,
 }
 
-// Counts a muted block.
-fn silenced(verdict: Verdict) -> u64
-    ensures value { result ≡ silenced (finding verdict) }
-    ensures small { result ≤ 1 }
+// Whether a block was muted.
+fn muted(verdict: Verdict) -> bool
+    ensures value { result ≡ mutes (finding verdict) }
 {
-    match verdict {
-        Verdict::Mute(_) => 1,
-        _ => 0,
-    }
+    matches!(verdict, Verdict::Mute(_))
 }
 
 // Counts the samples that have no mark.
@@ -40,13 +37,7 @@ fn unsound(marks: &[bool; BLOCK]) -> u64
     ensures value { result ≡ unmarked marks.now }
     ensures small { result ≤ 32 }
 {
-    let mut count = 0;
-    for i in 0..BLOCK {
-        if !marks[i] {
-            count += 1;
-        }
-    }
-    count
+    marks.iter().filter(|mark| !**mark).count() as u64
 }
 
 impl Counts {
@@ -64,7 +55,8 @@ impl Counts {
     }
 
     /// Counts a frame by what became of it.
-    pub(crate) fn note(&mut self, outcome: &Outcome)
+    // `Within` is no ghost field, since each record that `noted` writes down would then carry proofs.
+    pub(crate) fn note(&mut self, outcome: &Outcome<Option<Report>>)
         requires few_frames { self.old.frames + 1 < 2 ^ 58 }
         requires within { Within self.old }
         ensures counts { self.new ≡ noted self.old outcome.now }
@@ -74,9 +66,9 @@ impl Counts {
         if outcome.refused.is_some() {
             self.lost += 1;
         }
-        if let Some(report) = outcome.taken {
+        if let Some(report) = outcome.done {
             self.pairs += 1;
-            self.muted += silenced(report.first.verdict) + silenced(report.second.verdict);
+            self.muted += u64::from(muted(report.first.verdict)) + u64::from(muted(report.second.verdict));
             self.unsound += unsound(&report.first.marks) + unsound(&report.second.marks);
         }
     }

@@ -12,19 +12,12 @@ fn sample(word: u16) -> i16
     ensures value { result ≡ sample_of word }
     ensures own { (v : ℤ) → mag v < 2 ^ 13 → word ≡ linear.word v → result ≡ v }
 {
-    match Linear.read(word) {
-        Ok(value) => value as i16,
-        Err(_) => 0,
-    }
+    Linear.read(word).unwrap_or(0) as i16
 }
 
 /// The octets of a pair of words' samples.
 pub fn sound(words: &[u16; PAIR]) -> [u8; PAIR_OCTETS]
     ensures { result ≡ sample_octets (map sample_of words.now) }
 {
-    let mut samples = [0; PAIR];
-    for (i, word) in words.iter().enumerate() {
-        samples[i] = sample(*word);
-    }
-    write_pair(&samples)
+    write_pair(&words.map(sample))
 }

@@ -5,7 +5,7 @@ use crate::samples::sound;
 use circuit::Receiver;
 use frames::FRAME_OCTETS;
 use listening::receive;
-use raw::{PAIR, fill};
+use raw::{PAIR, Units};
 use std::io;
 use std::io::Write;
 use telling::{RefusedUnit, Unit};
@@ -16,30 +16,24 @@ const MOST_FRAMES: u64 = u64::MAX / FRAME_OCTETS as u64;
 
 /// Takes every frame, and writes the samples of each pair given.
 pub(crate) fn receive_all(rt: &HostRuntime) -> io::Result<Counts> {
-    let mut input = rt.stdin();
+    let mut units = Units::new(rt.stdin());
     let mut output = rt.stdout();
     let mut receiver = Receiver::new(Linear);
-    let mut octets = [0; FRAME_OCTETS];
     let mut words = [0; PAIR];
     let mut counts = Counts::new();
-    let mut got = 0;
-    for frame in 0..MOST_FRAMES {
-        got = fill(&mut input, &mut octets)?;
-        if got < FRAME_OCTETS {
-            break;
-        }
-        let outcome = receive(&mut receiver, &octets, &mut words);
+    for (frame, octets) in (0..MOST_FRAMES).zip(&mut units) {
+        let outcome = receive(&mut receiver, &octets?, &mut words);
         if let Some(refusal) = outcome.refused {
             eprintln!(rt; "{}", RefusedUnit::new(Unit::Frame, frame, refusal))?;
         }
-        if outcome.taken.is_some() {
+        if outcome.done.is_some() {
             output.write_all(&sound(&words))?;
         }
         counts.note(&outcome);
     }
     // an incomplete frame
-    if got % FRAME_OCTETS > 0 {
-        eprintln!(rt; "short {got}")?;
+    if units.short() > 0 {
+        eprintln!(rt; "short {}", units.short())?;
     }
     Ok(counts)
 }

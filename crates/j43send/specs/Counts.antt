@@ -3,7 +3,7 @@ use Rattle.std.specs.Prelude.{ℕ, ◌+◌, ◌≤◌, List, ◌++◌, Some, Non
 use Rattle.words.specs.declared.faults.Refusal.{Refusal}
 use Rattle.circuit.specs.declared.sender.Sent.{Sent}
 use Rattle.circuit.specs.declared.sender.Sent.TheVariants.{Held, Written}
-use Rattle.j43send.specs.declared.sending.Outcome.{Outcome}
+use Rattle.telling.specs.declared.outcome.Outcome.{Outcome}
 use Rattle.j43send.specs.declared.counts.Counts.{Counts}
 
 abbrev pub fresh : Counts
@@ -19,8 +19,8 @@ refusals_in None = 0
 refusals_in (Some refusal) = 1
 
 -- One pair more.
-abbrev pub noted : Counts → Outcome → Counts
-noted c o = record { pairs = c.pairs + 1; frames = c.frames + frames_in o.sent; refused = c.refused + refusals_in o.refused }
+abbrev pub noted : Counts → Outcome Sent → Counts
+noted c o = record { pairs = c.pairs + 1; frames = c.frames + frames_in o.done; refused = c.refused + refusals_in o.refused }
 
 -- No count is more than the pairs allow.
 abbrev pub Within : Counts → Type 0

@@ -2,9 +2,9 @@
 ghost use Rattle.std.specs.Prelude.{◌≡◌, ◌^◌, ◌<◌, Some};
 ghost use Rattle.j43send.specs.Counts.{fresh, noted, Within, line};
 
-use crate::sending::Outcome;
 use circuit::Sent;
 use std::fmt;
+use telling::Outcome;
 
 /// The counts so far.
 #[derive(Clone, Copy)]
@@ -30,14 +30,15 @@ impl Counts {
     }
 
     /// Counts a pair by what became of it.
-    pub(crate) fn note(&mut self, outcome: &Outcome)
+    // `Within` is no ghost field, since the frames after the last pair come on top.
+    pub(crate) fn note(&mut self, outcome: &Outcome<Sent>)
         requires few_pairs { self.old.pairs < 2 ^ 57 }
         requires within { Within self.old }
         ensures counts { self.new ≡ noted self.old outcome.now }
         ensures within { Within self.new }
     {
         self.pairs += 1;
-        if let Sent::Written = outcome.sent {
+        if let Sent::Written = outcome.done {
             self.frames += 1;
         }
         if outcome.refused.is_some() {

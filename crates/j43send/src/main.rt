@@ -2,34 +2,27 @@
 // only joins them.
 #![tactic(auto)]
 
-use crate::failure::Failure;
 use crate::streams::send_all;
+use anyhow::ensure;
 use std::process::ExitCode;
 use std::{env, io};
+use telling::ended;
 
 mod counts;
-mod failure;
 mod sending;
 mod streams;
 
-fn run(rt: &HostRuntime) -> Result<(), Failure> {
-    if env::args(rt)?.skip(1).next().is_some() {
-        return Err(Failure::Usage);
-    }
+fn run(rt: &HostRuntime) -> anyhow::Result<()> {
+    ensure!(
+        env::args(rt)?.nth(1).is_none(),
+        "usage: j43send < SAMPLES > FRAMES"
+    );
     let counts = send_all(rt)?;
-    if counts.refused > 0 {
-        return Err(Failure::Refused(counts));
-    }
+    ensure!(counts.refused == 0, "{counts}");
     eprintln!(rt; "{counts}")?;
     Ok(())
 }
 
 fn main(rt: HostRuntime) -> io::Result<ExitCode> {
-    match run(&rt) {
-        Ok(()) => Ok(ExitCode::SUCCESS),
-        Err(failure) => {
-            eprintln!(rt; "{failure}")?;
-            Ok(ExitCode::FAILURE)
-        }
-    }
+    ended(&rt, run(&rt))
 }

@@ -9,18 +9,9 @@ ghost use Rattle.j43send.specs.Sending.{silent, samples_in, sending};
 use circuit::{Sender, Sent};
 use frames::FRAME_OCTETS;
 use raw::{PAIR, PAIR_OCTETS, read_pair};
-use words::Refusal;
+use telling::Outcome;
 
 const SILENCE: [i16; PAIR] = [0; PAIR];
-
-/// What became of a pair.
-#[derive(Clone, Copy)]
-pub struct Outcome {
-    /// Whether a frame was written.
-    pub sent: Sent,
-    /// Why silence was put in its place.
-    pub refused: Option<Refusal>,
-}
 
 /// Puts a pair of silence, which is never refused.
 pub fn put_silence(sender: &mut Sender, frame: &mut [u8; FRAME_OCTETS]) -> Sent
@@ -28,32 +19,30 @@ pub fn put_silence(sender: &mut Sender, frame: &mut [u8; FRAME_OCTETS]) -> Sent
     ensures buffer { frame.new ≡ (accepting (source_of sender.old) frame.old (source_of sender.old).held silent).frame }
     ensures answer { gives result ≡ (accepting (source_of sender.old) frame.old (source_of sender.old).held silent).answer }
 {
-    match sender.put(&SILENCE, frame) {
-        Ok(sent) => sent,
-        Err(_) => unreachable(),
-    }
+    sender.put(&SILENCE, frame).unwrap()
 }
 
-/// Puts the pair that stands in the octets, or silence in its place.
+/// Puts the pair that stands in the octets, or silence in its place. Answers whether a frame was written, and why silence
+/// was put.
 pub fn send(
     sender: &mut Sender,
     octets: &[u8; PAIR_OCTETS],
     frame: &mut [u8; FRAME_OCTETS],
-) -> Outcome
+) -> Outcome<Sent>
     ensures state { source_of sender.new ≡ (sending (source_of sender.old) frame.old (samples_in octets.now)).source }
     ensures buffer { frame.new ≡ (sending (source_of sender.old) frame.old (samples_in octets.now)).frame }
-    ensures answer { gives result.sent ≡ (sending (source_of sender.old) frame.old (samples_in octets.now)).answer }
+    ensures answer { gives result.done ≡ (sending (source_of sender.old) frame.old (samples_in octets.now)).answer }
     ensures refused { result.refused ≡ refused_by (putting (source_of sender.old) frame.old (samples_in octets.now)).answer }
 {
     let samples: [i16; PAIR] = read_pair(octets);
     match sender.put(&samples, frame) {
-        Ok(sent) => Outcome {
-            sent,
+        Ok(done) => Outcome {
+            done,
             refused: None,
         },
         Err(fault) => Outcome {
-            sent: put_silence(sender, frame),
-            refused: Some(Refusal::from(fault)),
+            done: put_silence(sender, frame),
+            refused: Some(fault.into()),
         },
     }
 }

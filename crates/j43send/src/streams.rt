@@ -6,7 +6,7 @@ use crate::counts::Counts;
 use crate::sending::{put_silence, send};
 use circuit::{Sender, Sent};
 use frames::FRAME_OCTETS;
-use raw::{PAIR_OCTETS, fill};
+use raw::{PAIR_OCTETS, Units};
 use std::io;
 use std::io::Write;
 use telling::{RefusedUnit, Unit};
@@ -35,30 +35,24 @@ fn finish(output: &mut impl Write, sender: &mut Sender) -> io::Result<u64>
 
 /// Sends every pair, and silence after the last one.
 pub(crate) fn send_all(rt: &HostRuntime) -> io::Result<Counts> {
-    let mut input = rt.stdin();
+    let mut units = Units::new(rt.stdin());
     let mut output = rt.stdout();
     let mut sender = Sender::new();
-    let mut octets = [0; PAIR_OCTETS];
     let mut frame = [0; FRAME_OCTETS];
     let mut counts = Counts::new();
-    let mut got = 0;
-    for pair in 0..MOST_PAIRS {
-        got = fill(&mut input, &mut octets)?;
-        if got < PAIR_OCTETS {
-            break;
-        }
-        let outcome = send(&mut sender, &octets, &mut frame);
+    for (pair, octets) in (0..MOST_PAIRS).zip(&mut units) {
+        let outcome = send(&mut sender, &octets?, &mut frame);
         if let Some(refusal) = outcome.refused {
             eprintln!(rt; "{}", RefusedUnit::new(Unit::Pair, pair, refusal))?;
         }
-        if let Sent::Written = outcome.sent {
+        if let Sent::Written = outcome.done {
             output.write_all(&frame)?;
         }
         counts.note(&outcome);
     }
     // an incomplete pair
-    if got % PAIR_OCTETS > 0 {
-        eprintln!(rt; "short {got}")?;
+    if units.short() > 0 {
+        eprintln!(rt; "short {}", units.short())?;
     }
     if counts.pairs > 0 {
         counts.frames += finish(&mut output, &mut sender)?;

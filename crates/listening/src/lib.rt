@@ -4,4 +4,4 @@
 
 mod receiving;
 
-pub use receiving::{Outcome, receive};
+pub use receiving::receive;

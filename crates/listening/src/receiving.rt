@@ -10,16 +10,8 @@ use circuit::Receiver;
 use frames::FRAME_OCTETS;
 use raw::PAIR;
 use reception::Report;
-use words::{Linear, Refusal};
-
-/// What became of a frame.
-#[derive(Clone, Copy)]
-pub struct Outcome {
-    /// The report on the pair that was given, none where it is too early for one.
-    pub taken: Option<Report>,
-    /// Why the frame was counted as lost.
-    pub refused: Option<Refusal>,
-}
+use telling::Outcome;
+use words::Linear;
 
 // Counts a frame as lost, which is never refused.
 fn lose(receiver: &mut Receiver<Linear>, words: &mut [u16; PAIR]) -> Option<Report>
@@ -27,31 +19,29 @@ fn lose(receiver: &mut Receiver<Linear>, words: &mut [u16; PAIR]) -> Option<Repo
     ensures buffer { words.new ≡ (arriving linear (sink_of receiver.old) words.old None).words }
     ensures answer { gives (outcome_of result) ≡ (arriving linear (sink_of receiver.old) words.old None).answer }
 {
-    match receiver.lose(words) {
-        Ok(taken) => taken,
-        Err(_) => unreachable(),
-    }
+    receiver.lose(words).unwrap()
 }
 
-/// Takes a frame, or counts it as lost.
+/// Takes a frame, or counts it as lost. Answers whether a pair was given, with the report on it, and why the frame was
+/// counted as lost.
 pub fn receive(
     receiver: &mut Receiver<Linear>,
     octets: &[u8; FRAME_OCTETS],
     words: &mut [u16; PAIR],
-) -> Outcome
+) -> Outcome<Option<Report>>
     ensures state { sink_of receiver.new ≡ (receiving (sink_of receiver.old) words.old octets.now).sink }
     ensures buffer { words.new ≡ (receiving (sink_of receiver.old) words.old octets.now).words }
-    ensures answer { gives (outcome_of result.taken) ≡ (receiving (sink_of receiver.old) words.old octets.now).answer }
+    ensures answer { gives (outcome_of result.done) ≡ (receiving (sink_of receiver.old) words.old octets.now).answer }
     ensures refused { result.refused ≡ refused_by (taking linear (sink_of receiver.old) words.old octets.now).answer }
 {
     match receiver.take(octets, words) {
-        Ok(taken) => Outcome {
-            taken,
+        Ok(done) => Outcome {
+            done,
             refused: None,
         },
         Err(fault) => Outcome {
-            taken: lose(receiver, words),
-            refused: Some(Refusal::from(fault)),
+            done: lose(receiver, words),
+            refused: Some(fault.into()),
         },
     }
 }

@@ -5,10 +5,12 @@
 mod number;
 mod pair;
 mod stream;
+mod units;
 
 pub use number::RawNumber;
 pub use pair::{PAIR, PAIR_OCTETS, read_pair, write_pair};
 pub use stream::fill;
+pub use units::Units;
 
 #[cfg(test)]
 mod tests;

@@ -1,8 +1,7 @@
 // The numbers of a raw file: what two octets, the high one first, stand for, and the two octets of a number.
 // Byte order is left to the numbers' own methods.
 ghost use Rattle.std.specs.Prelude.{◌≡◌, ℕ};
-ghost use Rattle.std.proofs.Common.{to_z, of_z};
-ghost use Rattle.std.specs.Int.{w16};
+ghost use Rattle.std.specs.Int.{w16, cast_signed, cast_unsigned};
 ghost use Rattle.raw.specs.Octets.{number_at, octets_of};
 
 /// A number of 16 bits: a sample (signed) or a word (unsigned).
@@ -24,9 +23,9 @@ pub trait RawNumber: Copy + Drop {
 }
 
 impl RawNumber for i16 {
-    ghost bits = { of_z w16 };
+    ghost bits = { cast_unsigned w16 };
 
-    ghost value = { to_z w16 };
+    ghost value = { cast_signed w16 };
 
     fn from_octets(octets: [u8; 2]) -> i16 {
         i16::from_be_bytes(octets)

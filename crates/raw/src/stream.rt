@@ -11,6 +11,7 @@ pub fn fill(input: &mut impl Read, buffer: &mut [u8]) -> io::Result<usize>
     ensures small { IfOk result (λ n. n ≤ length buffer.old) }
 {
     let mut got = 0;
+    // A loop by hand: std's `read_exact` leaves open how much of an incomplete unit it read.
     while got < buffer.len() {
         let more = input.read(&mut buffer[got..])?;
         if more == 0 {

@@ -1,5 +1,5 @@
 // Numbers worked by hand, and an input that comes in pieces.
-use crate::{RawNumber, fill};
+use crate::{RawNumber, Units, fill};
 use std::io::Read;
 use std::test::Fail;
 
@@ -21,5 +21,18 @@ fn short_reads_are_joined(rt: HostRuntime) -> Result<(), Fail> {
     assert_eq!(rt; fill(&mut input, &mut unit)?, 1);
     assert_eq!(rt; unit[0], b'e');
     assert_eq!(rt; fill(&mut input, &mut unit)?, 0);
+    Ok(())
+}
+
+#[test]
+fn units_are_complete(rt: HostRuntime) -> Result<(), Fail> {
+    let front: &[u8] = b"ab";
+    let back: &[u8] = b"cdefghijk";
+    let mut units = Units::new(front.chain(back));
+    for (number, unit) in (0..8).zip(&mut units) {
+        let unit: [u8; 4] = unit?;
+        assert_eq!(rt; unit, if number == 0 { *b"abcd" } else { *b"efgh" });
+    }
+    assert_eq!(rt; units.short(), 3);
     Ok(())
 }

@@ -1,5 +1,10 @@
-use Rattle.std.proofs.Common.{◌≡◌, ◌≤◌, length}
+use Rattle.std.proofs.Common.{◌≡◌, ◌≤◌}
+use Rattle.std.specs.Iterator.Adapters.{zip_first}
 use Rattle.j41gate.proofs.streams.cross_all.Given as goal
 
 abbrev pub invariant-loop-pair : goal.invariant-loop-pair
-invariant-loop-pair l = (length l.octets ≡ 128) × (l.refused ≤ l.pair)
+invariant-loop-pair l =
+    (goal.iterator-loop-pair).can_next l.pair-iterator
+    × (goal.iterator-loop-pair).is_finite l.pair-iterator
+    × (l.refused ≤ (zip_first l.pair-iterator).start)
+    × ((zip_first l.pair-iterator).end ≡ 144115188075855871)

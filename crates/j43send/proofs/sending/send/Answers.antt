@@ -13,7 +13,7 @@ returns-in-Ok c =
     let samples = c.read_pair-samples.result in
     let put = c.in-Ok.ensures in
     let same : putting s frame samples ≡ sending s frame (samples_in c.args.octets.now) =
-    kept (putting s frame samples) (accepting s frame s.held silent) c.in-Ok.sent put.answer
+    kept (putting s frame samples) (accepting s frame s.held silent) c.in-Ok.done put.answer
     ∙ ap (sending s frame) c.read_pair-samples.ensures in
     record {
       state = put.state ∙ ap (λ (p : Put). p.source) same;

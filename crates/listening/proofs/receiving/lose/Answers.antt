@@ -1,6 +1,7 @@
-use Rattle.std.proofs.Common.{ap, ◌∙◌}
+use Rattle.std.proofs.Common.{sym, ap, ◌∙◌}
+use Rattle.circuit.specs.Faults.{answer}
 use Rattle.words.specs.Linear.{linear}
-use Rattle.circuit.specs.Taking.{Took, sink_of}
+use Rattle.circuit.specs.Taking.{Took, outcome, sink_of}
 use Rattle.listening.proofs.Lost.{loss_arrives}
 use Rattle.listening.proofs.receiving.lose.Goals as goal
 
@@ -10,5 +11,5 @@ returns c =
     record {
       state = c.lose.ensures.state ∙ ap (λ (t : Took). t.sink) same;
       buffer = c.lose.ensures.buffer ∙ ap (λ (t : Took). t.words) same;
-      answer = c.in-Ok.ensures.answer ∙ ap (λ (t : Took). t.answer) same;
+      answer = sym (ap (λ r. outcome (answer r)) c.unwrap.ensures) ∙ c.lose.ensures.answer ∙ ap (λ (t : Took). t.answer) same;
     }

@@ -14,7 +14,7 @@ returns-in-Ok c =
     let octets = c.args.octets.now in
     let took = c.in-Ok.ensures in
     let same : taking linear s words octets ≡ receiving s words octets =
-    kept (taking linear s words octets) (arriving linear s words None) (outcome_of c.in-Ok.taken) took.answer in
+    kept (taking linear s words octets) (arriving linear s words None) (outcome_of c.in-Ok.done) took.answer in
     record {
       state = took.state ∙ ap (λ (t : Took). t.sink) same;
       buffer = took.buffer ∙ ap (λ (t : Took). t.words) same;

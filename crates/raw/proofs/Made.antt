@@ -1,0 +1,43 @@
+-- Arrays made by calls, at each place or at each element of another array, where a call leaves the closure as it was.
+use Rattle.std.proofs.Common.{◌≡◌, ℕ, zero, suc, ◌+◌, ◌<◌, ◌≤◌, List, map, length, get_or, sym, ap, ◌∙◌, subst, ⊎_elim, arith}
+use Rattle.std.proofs.lemmas.Bool.{cases_eq}
+use Rattle.std.proofs.lemmas.List.{length-map, get_or-map, same_lists}
+use Rattle.std.proofs.lemmas.List.FromFn.{fill_by_all}
+use Rattle.std.specs.Array.{IsFromFnResult, IsFromFnResultFrom, IsMapOf, MapsFrom}
+use Rattle.std.specs.List.{range_with_len}
+use denote.Param.Members.{Mut, Called}
+
+module _ {F B : Type 0} (g : Mut F (ℕ × Unit {0}) B) (f : F) (v : ℕ → B)
+    (gives : (i : ℕ) (y : B) (q : F) → Called g f (i, tt) y q → (y ≡ v i) × (q ≡ f)) (ys : List B) where
+  made_from : (i n : ℕ) → IsFromFnResultFrom g f ys i n → (k : ℕ) (d : B) → i ≤ k → k < i + n → get_or ys k d ≡ v k
+  made_from i zero m k d from upto = absurd (omega arith)
+  made_from i (suc n) m k d from upto =
+      let one = gives i m.1 m.0 m.3 in
+      ⊎_elim
+      (λ (here : i ≡ k). subst (λ (j : ℕ). get_or ys j d ≡ v j) here (m.2.1 d ∙ one.0))
+      (λ (later : i ≡ k → ⊥).
+      made_from (i + 1) n (subst (λ (q : F). IsFromFnResultFrom g q ys (i + 1) n) one.1 m.4) k d (omega arith) (omega arith))
+      (cases_eq i k)
+
+  -- place k holds v k
+  pub made : (n : ℕ) (d : B) → IsFromFnResult g f ys n → ys ≡ map v (range_with_len 0 n)
+  made n d m = fill_by_all v ys n d m.long (λ k h. made_from 0 n m.each k d (omega arith) (omega arith))
+
+module _ {F A B : Type 0} (g : Mut F (A × Unit {0}) B) (f : F) (v : A → B)
+    (gives : (x : A) (y : B) (q : F) → Called g f (x, tt) y q → (y ≡ v x) × (q ≡ f)) (xs : List A) (ys : List B) where
+  mapped_from : (i n : ℕ) → MapsFrom g f xs ys i n → (k : ℕ) (d : B) → i ≤ k → k < i + n → k < length xs → get_or ys k d ≡ get_or (map v xs) k d
+  mapped_from i zero m k d from upto inside = absurd (omega arith)
+  mapped_from i (suc n) m k d from upto inside =
+      let one = gives m.1 m.2 m.0 m.5 in
+      ⊎_elim
+      (λ (here : i ≡ k).
+      subst (λ (j : ℕ). get_or ys j d ≡ get_or (map v xs) j d) here
+      (m.4.1 d ∙ one.0 ∙ sym (get_or-map v xs i m.1 d (omega arith) ∙ ap v m.3.0)))
+      (λ (later : i ≡ k → ⊥).
+      mapped_from (i + 1) n (subst (λ (q : F). MapsFrom g q xs ys (i + 1) n) one.1 m.6) k d (omega arith) (omega arith) inside)
+      (cases_eq i k)
+
+  -- each place holds v of the element there
+  pub mapped : (n : ℕ) → length xs ≡ n → IsMapOf g f xs ys n → ys ≡ map v xs
+  mapped n all m =
+      same_lists ys (map v xs) (omega (arith, m.long, length-map xs v)) (λ k d h. mapped_from 0 n m.each k d (omega arith) (omega (arith, m.long)) (omega (arith, m.long)))

@@ -1,7 +1,7 @@
 // The commands of the console, and how a line is read as one.
-use crate::bench::OutletName;
 use crate::faults::ConsoleFault;
 use crate::law::Law;
+use crate::outlet::OutletLaw;
 use crate::tokens::Tokens;
 use std::alloc::Global;
 
@@ -20,7 +20,7 @@ pub enum Command {
     /// The guard bits of a block as received, p1 to p24 and C1 to C5.
     BlockGuard(u32),
     /// A fresh circuit with this outlet.
-    New(OutletName),
+    New(OutletLaw),
     /// The room for a frame, and samples.
     Put(usize, Vec<i16>),
     /// Words under a law, and the room for a frame.
@@ -33,29 +33,29 @@ pub enum Command {
     Log(usize, u32, u32),
 }
 
-fn read_command(heap: Global, line: &mut Tokens<'_>) -> Result<Command, ConsoleFault> {
+fn read_command(line: &mut Tokens<'_>) -> Result<Command, ConsoleFault> {
     match line.word()? {
-        "word" => Ok(Command::Word(line.law()?, line.number()?)),
-        "read" => Ok(Command::Read(line.law()?, line.number()?)),
-        "words" => Ok(Command::Words(line.law()?, line.room()?, line.numbers(heap)?)),
-        "values" => Ok(Command::Values(line.law()?, line.room()?, line.numbers(heap)?)),
+        "word" => Ok(Command::Word(line.one()?, line.one()?)),
+        "read" => Ok(Command::Read(line.one()?, line.one()?)),
+        "words" => Ok(Command::Words(line.one()?, line.room()?, line.numbers()?)),
+        "values" => Ok(Command::Values(line.one()?, line.room()?, line.numbers()?)),
         "ranges" => Ok(Command::Ranges(line.samples()?)),
         "guard12" => Ok(Command::RangeGuard(line.bits(12)?)),
         "guard29" => Ok(Command::BlockGuard(line.bits(29)?)),
-        "new" => Ok(Command::New(line.outlet()?)),
-        "put" => Ok(Command::Put(line.room()?, line.numbers(heap)?)),
-        "putw" => Ok(Command::PutWords(line.law()?, line.room()?, line.numbers(heap)?)),
-        "take" => Ok(Command::Take(line.room()?, line.octets(heap)?)),
+        "new" => Ok(Command::New(line.one()?)),
+        "put" => Ok(Command::Put(line.room()?, line.numbers()?)),
+        "putw" => Ok(Command::PutWords(line.one()?, line.room()?, line.numbers()?)),
+        "take" => Ok(Command::Take(line.room()?, line.octets()?)),
         "lose" => Ok(Command::Lose(line.room()?)),
-        "log" => Ok(Command::Log(line.room()?, line.number()?, line.number()?)),
+        "log" => Ok(Command::Log(line.room()?, line.one()?, line.one()?)),
         _ => Err(ConsoleFault::NoCommand),
     }
 }
 
 // The command of a line; nothing may stand after it.
 pub(crate) fn parse(heap: Global, line: &str) -> Result<Command, ConsoleFault> {
-    let mut line = Tokens::new(line);
-    let command = read_command(heap, &mut line)?;
+    let mut line = Tokens::new(heap, line);
+    let command = read_command(&mut line)?;
     if line.is_spent() {
         Ok(command)
     } else {

@@ -33,32 +33,34 @@ pub enum Command {
     Log(usize, u32, u32),
 }
 
-fn read_command(line: &mut Tokens<'_>) -> Result<Command, ConsoleFault> {
-    match line.word()? {
-        "word" => Ok(Command::Word(line.one()?, line.one()?)),
-        "read" => Ok(Command::Read(line.one()?, line.one()?)),
-        "words" => Ok(Command::Words(line.one()?, line.room()?, line.numbers()?)),
-        "values" => Ok(Command::Values(line.one()?, line.room()?, line.numbers()?)),
-        "ranges" => Ok(Command::Ranges(line.samples()?)),
-        "guard12" => Ok(Command::RangeGuard(line.bits(12)?)),
-        "guard29" => Ok(Command::BlockGuard(line.bits(29)?)),
-        "new" => Ok(Command::New(line.one()?)),
-        "put" => Ok(Command::Put(line.room()?, line.numbers()?)),
-        "putw" => Ok(Command::PutWords(line.one()?, line.room()?, line.numbers()?)),
-        "take" => Ok(Command::Take(line.room()?, line.octets()?)),
-        "lose" => Ok(Command::Lose(line.room()?)),
-        "log" => Ok(Command::Log(line.room()?, line.one()?, line.one()?)),
-        _ => Err(ConsoleFault::NoCommand),
+impl Command {
+    fn read(line: &mut Tokens<'_>) -> Result<Command, ConsoleFault> {
+        match line.word()? {
+            "word" => Ok(Command::Word(line.parse()?, line.parse()?)),
+            "read" => Ok(Command::Read(line.parse()?, line.parse()?)),
+            "words" => Ok(Command::Words(line.parse()?, line.room()?, line.numbers()?)),
+            "values" => Ok(Command::Values(line.parse()?, line.room()?, line.numbers()?)),
+            "ranges" => Ok(Command::Ranges(line.samples()?)),
+            "guard12" => Ok(Command::RangeGuard(line.bits(12)?)),
+            "guard29" => Ok(Command::BlockGuard(line.bits(29)?)),
+            "new" => Ok(Command::New(line.parse()?)),
+            "put" => Ok(Command::Put(line.room()?, line.numbers()?)),
+            "putw" => Ok(Command::PutWords(line.parse()?, line.room()?, line.numbers()?)),
+            "take" => Ok(Command::Take(line.room()?, line.octets()?)),
+            "lose" => Ok(Command::Lose(line.room()?)),
+            "log" => Ok(Command::Log(line.room()?, line.parse()?, line.parse()?)),
+            _ => Err(ConsoleFault::NoCommand),
+        }
     }
-}
 
-// The command of a line; nothing may stand after it.
-pub(crate) fn parse(heap: Global, line: &str) -> Result<Command, ConsoleFault> {
-    let mut line = Tokens::new(heap, line);
-    let command = read_command(&mut line)?;
-    if line.is_spent() {
-        Ok(command)
-    } else {
-        Err(ConsoleFault::NoCommand)
+    /// The command of a line; nothing may stand after it.
+    pub(crate) fn parse(heap: Global, line: &str) -> Result<Command, ConsoleFault> {
+        let mut line = Tokens::new(heap, line);
+        let command = Command::read(&mut line)?;
+        if line.is_spent() {
+            Ok(command)
+        } else {
+            Err(ConsoleFault::NoCommand)
+        }
     }
 }

@@ -1,5 +1,5 @@
 // Carries commands out, each by the one call of the codec that it names, in buffers of the room that the command asks for.
-use crate::command::{Command, parse};
+use crate::command::Command;
 use crate::faults::ConsoleFault;
 use crate::law::Law;
 use crate::outlet::OutletLaw;
@@ -58,7 +58,7 @@ impl Console {
 
     /// What a line is answered.
     pub(crate) fn answer(&mut self, line: &str) -> Result<Reply, ConsoleFault> {
-        match parse(self.heap, line)? {
+        match Command::parse(self.heap, line)? {
             Command::Word(law, value) => Ok(Reply::Word(law.make(value)?)),
             Command::Read(law, word) => Ok(Reply::Value(law.read(word)?)),
             Command::Words(law, room, values) => self.words(law, room, values.as_slice()),

@@ -13,7 +13,7 @@ pub enum ConsoleFault {
     /// The codec refuses the call.
     Refused(Refusal),
     /// There is no memory for the buffers that it asks for.
-    Memory,
+    Memory(AllocError),
 }
 
 impl fmt::Display for ConsoleFault {
@@ -26,7 +26,7 @@ impl fmt::Display for ConsoleFault {
                 let layer = refusal.layer.name();
                 write!(f, "refuse {number} {place} {layer}")
             }
-            ConsoleFault::Memory => write!(f, "{AllocError}"),
+            ConsoleFault::Memory(fault) => write!(f, "{fault}"),
         }
     }
 }
@@ -56,13 +56,13 @@ impl From<LogFault> for ConsoleFault {
 }
 
 impl From<AllocError> for ConsoleFault {
-    fn from(_fault: AllocError) -> ConsoleFault {
-        ConsoleFault::Memory
+    fn from(fault: AllocError) -> ConsoleFault {
+        ConsoleFault::Memory(fault)
     }
 }
 
 impl<T: Drop> From<AllocFailed<T>> for ConsoleFault {
-    fn from(_fault: AllocFailed<T>) -> ConsoleFault {
-        ConsoleFault::Memory
+    fn from(fault: AllocFailed<T>) -> ConsoleFault {
+        ConsoleFault::Memory(fault.into())
     }
 }

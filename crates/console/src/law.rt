@@ -37,7 +37,7 @@ impl FromStr for Law {
 }
 
 impl WordLaw for Law {
-    // Of the longest one.
+    // The longest; `word_length` has that of the law named.
     const BITS: u32 = OutletLaw::BITS;
 
     ghost meaning = { law_meaning };

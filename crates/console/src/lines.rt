@@ -51,7 +51,7 @@ impl fmt::Display for Told<'_> {
         let number = self.0.verdict.number();
         write!(f, " {word} {number} ")?;
         for sound in self.0.marks {
-            write!(f, "{}", if sound { "1" } else { "0" })?;
+            write!(f, "{}", u8::from(sound))?;
         }
         Ok(())
     }

@@ -14,7 +14,6 @@ mod tokens;
 use crate::console::Console;
 use crate::faults::ConsoleFault;
 use crate::outlet::OutletLaw;
-use std::alloc::AllocError;
 use std::io;
 use std::io::{BufRead, BufReader};
 
@@ -26,7 +25,7 @@ fn main(rt: HostRuntime) -> io::Result<()> {
         if !line.is_empty() {
             match console.answer(line.as_str()) {
                 Ok(reply) => println!(rt; "{reply}")?,
-                Err(ConsoleFault::Memory) => return Err(AllocError.into()),
+                Err(ConsoleFault::Memory(fault)) => return Err(fault.into()),
                 Err(fault) => println!(rt; "{fault}")?,
             }
         }

@@ -24,7 +24,7 @@ impl FromStr for OutletLaw {
 }
 
 impl WordLaw for OutletLaw {
-    // Of the longer one.
+    // The longest; `word_length` has that of the law named.
     const BITS: u32 = Linear::BITS;
 
     ghost meaning = { outlet_meaning };

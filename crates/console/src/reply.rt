@@ -45,7 +45,11 @@ impl fmt::Display for Reply {
                 write!(f, "pair{}", Listed(words.as_slice()))?;
                 write!(f, " | {} | {}", Told(&report.first), Told(&report.second))
             }
-            Reply::Log(length, octets) => write!(f, "log {length} {}", Hexadecimal(octets.as_slice())),
+            Reply::Log(length, octets) => write!(
+                f,
+                "log {length} {}",
+                Hexadecimal(octets.as_slice())
+            ),
         }
     }
 }

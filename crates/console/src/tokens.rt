@@ -13,23 +13,19 @@ pub struct Tokens<'a> {
     words: Split<'a, char>,
 }
 
-// The value of a lowercase hexadecimal digit.
-fn digit(byte: u8) -> Option<u8> {
+// The value of a hexadecimal digit. By hand, since the library's readers take upper case too.
+fn digit(byte: u8) -> Result<u8, ConsoleFault> {
     match byte {
-        b'0'..=b'9' => Some(byte - b'0'),
-        b'a'..=b'f' => Some(byte - b'a' + 10),
-        _ => None,
+        b'0'..=b'9' => Ok(byte - b'0'),
+        b'a'..=b'f' => Ok(byte - b'a' + 10),
+        _ => Err(ConsoleFault::NoCommand),
     }
 }
 
 // The octet of two digits.
 fn octet(digits: &[u8]) -> Result<u8, ConsoleFault> {
     match digits {
-        [high, low] => {
-            let high = digit(*high).ok_or(ConsoleFault::NoCommand)?;
-            let low = digit(*low).ok_or(ConsoleFault::NoCommand)?;
-            Ok(high << 4 | low)
-        }
+        [high, low] => Ok(digit(*high)? << 4 | digit(*low)?),
         _ => Err(ConsoleFault::NoCommand),
     }
 }
@@ -46,8 +42,8 @@ impl<'a> Tokens<'a> {
         self.words.next().ok_or(ConsoleFault::NoCommand)
     }
 
-    // A word that is read as one thing: a number that fits its type, a law or an outlet.
-    pub(crate) fn one<T: FromStr>(&mut self) -> Result<T, ConsoleFault>
+    // A word as a number that fits its type, a law or an outlet.
+    pub(crate) fn parse<T: FromStr>(&mut self) -> Result<T, ConsoleFault>
     where
         ConsoleFault: From<T::Err>,
     {
@@ -56,7 +52,7 @@ impl<'a> Tokens<'a> {
 
     // The length of a buffer.
     pub(crate) fn room(&mut self) -> Result<usize, ConsoleFault> {
-        match self.one()? {
+        match self.parse()? {
             room if room <= LONGEST => Ok(room),
             _ => Err(ConsoleFault::NoCommand),
         }
@@ -68,16 +64,16 @@ impl<'a> Tokens<'a> {
         ConsoleFault: From<T::Err>,
     {
         let heap = self.heap;
-        let count = self.one::<usize>()?;
-        (0..count).map(|_| self.one()).try_collect(heap)
+        let count = self.parse::<usize>()?;
+        (0..count).map(|_| self.parse()).try_collect(heap)
     }
 
     // Thirty-three samples: a block and its follower.
     pub(crate) fn samples(&mut self) -> Result<[i32; 33], ConsoleFault> {
-        array::try_from_fn(|_| Ok(i32::from(self.one::<i16>()?)))
+        array::try_from_fn(|_| Ok(i32::from(self.parse::<i16>()?)))
     }
 
-    // So many bits, at most 32, the first one highest.
+    // So many bits, at most 32, the first one highest. The library alone would take a sign too.
     pub(crate) fn bits(&mut self, count: usize) -> Result<u32, ConsoleFault> {
         let word = self.word()?;
         if word.len() != count || !word.bytes().all(|b| b == b'0' || b == b'1') {
@@ -91,7 +87,11 @@ impl<'a> Tokens<'a> {
         match self.word()? {
             "-" => Ok(Vec::new(self.heap)),
             "" => Err(ConsoleFault::NoCommand),
-            digits => digits.as_bytes().chunks(2).map(octet).try_collect(self.heap),
+            digits => digits
+                .as_bytes()
+                .chunks(2)
+                .map(octet)
+                .try_collect(self.heap),
         }
     }
 

@@ -61,8 +61,8 @@ impl Console {
         match Command::parse(self.heap, line)? {
             Command::Word(law, value) => Ok(Reply::Word(law.make(value)?)),
             Command::Read(law, word) => Ok(Reply::Value(law.read(word)?)),
-            Command::Words(law, room, values) => self.words(law, room, values.as_slice()),
-            Command::Values(law, room, words) => self.values(law, room, words.as_slice()),
+            Command::Words(law, room, values) => self.words(law, room, &values),
+            Command::Values(law, room, words) => self.values(law, room, &words),
             Command::Ranges(samples) => ranges_of(samples),
             Command::RangeGuard(word) => Ok(range_guard(word)),
             Command::BlockGuard(guards) => Ok(block_guard(guards)),
@@ -70,9 +70,9 @@ impl Console {
                 *self = Console::new(self.heap, outlet);
                 Ok(Reply::Fresh)
             }
-            Command::Put(room, samples) => self.put(room, samples.as_slice()),
-            Command::PutWords(law, room, words) => self.put_words(law, room, words.as_slice()),
-            Command::Take(room, octets) => self.take(room, octets.as_slice()),
+            Command::Put(room, samples) => self.put(room, &samples),
+            Command::PutWords(law, room, words) => self.put_words(law, room, &words),
+            Command::Take(room, octets) => self.take(room, &octets),
             Command::Lose(room) => self.lose(room),
             Command::Log(room, circuit, pair) => self.log(room, circuit, pair),
         }
@@ -80,37 +80,37 @@ impl Console {
 
     fn words(&self, law: Law, room: usize, values: &[i32]) -> Result<Reply, ConsoleFault> {
         let mut words = vec![in self.heap; 0; room]?;
-        compand(&law, values, words.as_mut_slice())?;
+        compand(&law, values, &mut words)?;
         Ok(Reply::Words(words))
     }
 
     fn values(&self, law: Law, room: usize, words: &[u16]) -> Result<Reply, ConsoleFault> {
         let mut values = vec![in self.heap; 0; room]?;
-        expand(&law, words, values.as_mut_slice())?;
+        expand(&law, words, &mut values)?;
         Ok(Reply::Values(values))
     }
 
     fn put(&mut self, room: usize, samples: &[i16]) -> Result<Reply, ConsoleFault> {
         let mut frame = vec![in self.heap; 0; room]?;
-        let outcome = self.circuit.put(samples, frame.as_mut_slice())?;
+        let outcome = self.circuit.put(samples, &mut frame)?;
         Ok(sent(outcome, frame))
     }
 
     fn put_words(&mut self, law: Law, room: usize, words: &[u16]) -> Result<Reply, ConsoleFault> {
         let mut frame = vec![in self.heap; 0; room]?;
-        let outcome = self.circuit.put_words(&law, words, frame.as_mut_slice())?;
+        let outcome = self.circuit.put_words(&law, words, &mut frame)?;
         Ok(sent(outcome, frame))
     }
 
     fn take(&mut self, room: usize, octets: &[u8]) -> Result<Reply, ConsoleFault> {
         let mut words = vec![in self.heap; 0; room]?;
-        let outcome = self.circuit.take(octets, words.as_mut_slice())?;
+        let outcome = self.circuit.take(octets, &mut words)?;
         Ok(self.taken(outcome, words))
     }
 
     fn lose(&mut self, room: usize) -> Result<Reply, ConsoleFault> {
         let mut words = vec![in self.heap; 0; room]?;
-        let outcome = self.circuit.lose(words.as_mut_slice())?;
+        let outcome = self.circuit.lose(&mut words)?;
         Ok(self.taken(outcome, words))
     }
 
@@ -129,7 +129,7 @@ impl Console {
     fn log(&self, room: usize, circuit: u32, pair: u32) -> Result<Reply, ConsoleFault> {
         let mut buffer = vec![in self.heap; 0; room]?;
         let report = self.last.as_ref().ok_or(ConsoleFault::NoCommand)?;
-        let length = log(report, circuit, pair, buffer.as_mut_slice())?;
+        let length = log(report, circuit, pair, &mut buffer)?;
         Ok(Reply::Log(length, buffer))
     }
 }

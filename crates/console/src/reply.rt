@@ -31,25 +31,21 @@ impl fmt::Display for Reply {
         match self {
             Reply::Word(word) => write!(f, "word {word}"),
             Reply::Value(value) => write!(f, "value {value}"),
-            Reply::Words(words) => write!(f, "words{}", Listed(words.as_slice())),
-            Reply::Values(values) => write!(f, "values{}", Listed(values.as_slice())),
+            Reply::Words(words) => write!(f, "words{}", Listed(words)),
+            Reply::Values(values) => write!(f, "values{}", Listed(values)),
             Reply::Ranges(basic, additional) => write!(f, "ranges {basic} {additional}"),
             Reply::Located(Found::Clean) => write!(f, "clean"),
             Reply::Located(Found::At(position)) => write!(f, "at {position}"),
             Reply::Located(Found::Nowhere) => write!(f, "nowhere"),
             Reply::Fresh => write!(f, "ok"),
             Reply::Held => write!(f, "held"),
-            Reply::Frame(octets) => write!(f, "frame {}", Hexadecimal(octets.as_slice())),
+            Reply::Frame(octets) => write!(f, "frame {}", Hexadecimal(octets)),
             Reply::Early => write!(f, "early"),
             Reply::Pair(words, report) => {
-                write!(f, "pair{}", Listed(words.as_slice()))?;
+                write!(f, "pair{}", Listed(words))?;
                 write!(f, " | {} | {}", Told(&report.first), Told(&report.second))
             }
-            Reply::Log(length, octets) => write!(
-                f,
-                "log {length} {}",
-                Hexadecimal(octets.as_slice())
-            ),
+            Reply::Log(length, octets) => write!(f, "log {length} {}", Hexadecimal(octets)),
         }
     }
 }

@@ -39,8 +39,8 @@ fn block_guard(guards: u32) -> Reply {
 }
 
 // What became of a pair that was put, with the frame buffer that was lent.
-fn sent(sent: Sent, frame: Vec<u8>) -> Reply {
-    match sent {
+fn sent(outcome: Sent, frame: Vec<u8>) -> Reply {
+    match outcome {
         Sent::Held => Reply::Held,
         Sent::Written => Reply::Frame(frame),
     }

@@ -1,8 +1,9 @@
 // The commands of the console, and how a line is read as one.
-use crate::bench::OutletName;
 use crate::faults::ConsoleFault;
 use crate::law::Law;
+use crate::outlet::OutletLaw;
 use crate::tokens::Tokens;
+use linelog::PairNumber;
 use std::alloc::Global;
 
 #[derive(Drop)]
@@ -20,7 +21,7 @@ pub enum Command {
     /// The guard bits of a block as received, p1 to p24 and C1 to C5.
     BlockGuard(u32),
     /// A fresh circuit with this outlet.
-    New(OutletName),
+    New(OutletLaw),
     /// The room for a frame, and samples.
     Put(usize, Vec<i16>),
     /// Words under a law, and the room for a frame.
@@ -29,36 +30,38 @@ pub enum Command {
     Take(usize, Vec<u8>),
     /// The room for words.
     Lose(usize),
-    /// The room for a log, and the numbers of circuit and pair.
-    Log(usize, u32, u32),
+    /// The room for a log, and the numbers that it tells.
+    Log(usize, PairNumber),
 }
 
-fn read_command(heap: Global, line: &mut Tokens<'_>) -> Result<Command, ConsoleFault> {
-    match line.word()? {
-        "word" => Ok(Command::Word(line.law()?, line.number()?)),
-        "read" => Ok(Command::Read(line.law()?, line.number()?)),
-        "words" => Ok(Command::Words(line.law()?, line.room()?, line.numbers(heap)?)),
-        "values" => Ok(Command::Values(line.law()?, line.room()?, line.numbers(heap)?)),
-        "ranges" => Ok(Command::Ranges(line.samples()?)),
-        "guard12" => Ok(Command::RangeGuard(line.bits(12)?)),
-        "guard29" => Ok(Command::BlockGuard(line.bits(29)?)),
-        "new" => Ok(Command::New(line.outlet()?)),
-        "put" => Ok(Command::Put(line.room()?, line.numbers(heap)?)),
-        "putw" => Ok(Command::PutWords(line.law()?, line.room()?, line.numbers(heap)?)),
-        "take" => Ok(Command::Take(line.room()?, line.octets(heap)?)),
-        "lose" => Ok(Command::Lose(line.room()?)),
-        "log" => Ok(Command::Log(line.room()?, line.number()?, line.number()?)),
-        _ => Err(ConsoleFault::NoCommand),
+impl Command {
+    fn read(line: &mut Tokens<'_>) -> Result<Command, ConsoleFault> {
+        match line.word()? {
+            "word" => Ok(Command::Word(line.parse()?, line.parse()?)),
+            "read" => Ok(Command::Read(line.parse()?, line.parse()?)),
+            "words" => Ok(Command::Words(line.parse()?, line.room()?, line.numbers()?)),
+            "values" => Ok(Command::Values(line.parse()?, line.room()?, line.numbers()?)),
+            "ranges" => Ok(Command::Ranges(line.samples()?)),
+            "guard12" => Ok(Command::RangeGuard(line.bits(12)?)),
+            "guard29" => Ok(Command::BlockGuard(line.bits(29)?)),
+            "new" => Ok(Command::New(line.parse()?)),
+            "put" => Ok(Command::Put(line.room()?, line.numbers()?)),
+            "putw" => Ok(Command::PutWords(line.parse()?, line.room()?, line.numbers()?)),
+            "take" => Ok(Command::Take(line.room()?, line.octets()?)),
+            "lose" => Ok(Command::Lose(line.room()?)),
+            "log" => Ok(Command::Log(line.room()?, line.pair_number()?)),
+            _ => Err(ConsoleFault::NoCommand),
+        }
     }
-}
 
-// The command of a line; nothing may stand after it.
-pub(crate) fn parse(heap: Global, line: &str) -> Result<Command, ConsoleFault> {
-    let mut line = Tokens::new(line);
-    let command = read_command(heap, &mut line)?;
-    if line.is_spent() {
-        Ok(command)
-    } else {
-        Err(ConsoleFault::NoCommand)
+    /// The command of a line; nothing may stand after it.
+    pub(crate) fn parse(heap: Global, line: &str) -> Result<Command, ConsoleFault> {
+        let mut line = Tokens::new(heap, line);
+        let command = Command::read(&mut line)?;
+        if line.is_spent() {
+            Ok(command)
+        } else {
+            Err(ConsoleFault::NoCommand)
+        }
     }
 }

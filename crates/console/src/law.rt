@@ -1,61 +1,66 @@
-// A word law by its name on the console: `linear`, `j41b`, `basic:R` or `add:R:A`.
-use words::{Additional, Basic};
+// A word law by its name on the console: an outlet's, `basic:R` or `add:R:A`. It makes and reads the words of the law named.
+ghost use Rattle.console.specs.Laws.{law_length, law_meaning, law_rule};
+
+use crate::faults::ConsoleFault;
+use crate::outlet::OutletLaw;
+use std::str::FromStr;
+use words::{Additional, Basic, Linear, WordFault, WordLaw};
 
 #[derive(Clone, Copy)]
 pub enum Law {
-    Linear,
-    VariantB,
+    Outlet(OutletLaw),
     Basic(Basic),
     Additional(Additional),
 }
 
-fn basic(range: &str) -> Option<Law> {
-    let range = range.parse::<u8>().ok()?;
-    let law = Basic::new(range)?;
-    Some(Law::Basic(law))
+fn basic(range: &str) -> Result<Law, ConsoleFault> {
+    let law = Basic::new(range.parse()?).ok_or(ConsoleFault::NoCommand)?;
+    Ok(Law::Basic(law))
 }
 
-fn additional(ranges: &str) -> Option<Law> {
-    let (basic, range) = ranges.split_once(':')?;
-    let basic = basic.parse::<u8>().ok()?;
-    let range = range.parse::<u8>().ok()?;
-    let law = Additional::new(basic, range)?;
-    Some(Law::Additional(law))
+fn additional(ranges: &str) -> Result<Law, ConsoleFault> {
+    let (basic, range) = ranges.split_once(':').ok_or(ConsoleFault::NoCommand)?;
+    let law = Additional::new(basic.parse()?, range.parse()?).ok_or(ConsoleFault::NoCommand)?;
+    Ok(Law::Additional(law))
 }
 
-impl Law {
-    pub(crate) fn named(name: &str) -> Option<Law> {
-        if name == "linear" {
-            return Some(Law::Linear);
-        }
-        if name == "j41b" {
-            return Some(Law::VariantB);
-        }
-        let (kind, ranges) = name.split_once(':')?;
-        match kind {
-            "basic" => basic(ranges),
-            "add" => additional(ranges),
-            _ => None,
+impl FromStr for Law {
+    type Err = ConsoleFault;
+
+    fn from_str(name: &str) -> Result<Law, ConsoleFault> {
+        match name.split_once(':') {
+            Some(("basic", range)) => basic(range),
+            Some(("add", ranges)) => additional(ranges),
+            _ => Ok(Law::Outlet(name.parse()?)),
         }
     }
 }
 
-// Does a work that is generic in the law under the law that was named.
-macro_rules! under {
-    ($named:expr, $law:ident, $work:expr) => {
-        match $named {
-            Law::Linear => {
-                let $law = words::Linear;
-                $work
-            }
-            Law::VariantB => {
-                let $law = words::VariantB;
-                $work
-            }
-            Law::Basic($law) => $work,
-            Law::Additional($law) => $work,
-        }
-    };
-}
+impl WordLaw for Law {
+    // The longest: shorter words are held in as many bits.
+    const BITS: u32 = Linear::BITS;
 
-pub(crate) use under;
+    ghost BITS = { 14 };
+
+    ghost meaning = { law_meaning };
+
+    ghost length = { law_length };
+
+    ghost cells = { law_rule };
+
+    fn make(&self, value: i32) -> Result<u16, WordFault> {
+        match self {
+            Law::Outlet(law) => law.make(value),
+            Law::Basic(law) => law.make(value),
+            Law::Additional(law) => law.make(value),
+        }
+    }
+
+    fn read(&self, word: u16) -> Result<i32, WordFault> {
+        match self {
+            Law::Outlet(law) => law.read(word),
+            Law::Basic(law) => law.read(word),
+            Law::Additional(law) => law.read(word),
+        }
+    }
+}

@@ -3,25 +3,30 @@ use guards::ranges::Ranges;
 use reception::BlockReport;
 use std::fmt;
 
-// A label, and each number behind a space.
-pub(crate) fn listed<W: fmt::Write, T: fmt::Display>(
-    f: &mut fmt::Formatter<W>,
-    label: &str,
-    numbers: &[T],
-) -> fmt::Result {
-    write!(f, "{label}")?;
-    for n in numbers {
-        write!(f, " {n}")?;
+/// Each number behind a space.
+#[derive(Drop)]
+pub struct Listed<'a, T>(pub &'a [T]);
+
+impl<T: fmt::Display> fmt::Display for Listed<'_, T> {
+    fn fmt<W: fmt::Write>(&self, f: &mut fmt::Formatter<W>) -> fmt::Result {
+        for n in self.0 {
+            write!(f, " {n}")?;
+        }
+        Ok(())
     }
-    Ok(())
 }
 
-// Two digits to an octet.
-pub(crate) fn hexadecimal<W: fmt::Write>(f: &mut fmt::Formatter<W>, octets: &[u8]) -> fmt::Result {
-    for octet in octets {
-        write!(f, "{octet:02x}")?;
+/// Two digits to an octet.
+#[derive(Drop)]
+pub struct Hexadecimal<'a>(pub &'a [u8]);
+
+impl fmt::Display for Hexadecimal<'_> {
+    fn fmt<W: fmt::Write>(&self, f: &mut fmt::Formatter<W>) -> fmt::Result {
+        for octet in self.0 {
+            write!(f, "{octet:02x}")?;
+        }
+        Ok(())
     }
-    Ok(())
 }
 
 fn ranges<W: fmt::Write>(f: &mut fmt::Formatter<W>, ranges: Option<Ranges>) -> fmt::Result {
@@ -35,15 +40,17 @@ fn ranges<W: fmt::Write>(f: &mut fmt::Formatter<W>, ranges: Option<Ranges>) -> f
     }
 }
 
-// A block behind a bar: its ranges, its verdict, and a 1 for each sound sample.
-pub(crate) fn block<W: fmt::Write>(f: &mut fmt::Formatter<W>, report: &BlockReport) -> fmt::Result {
-    write!(f, " | ")?;
-    ranges(f, report.ranges)?;
-    let word = report.verdict.word();
-    let number = report.verdict.number();
-    write!(f, " {word} {number} ")?;
-    for sound in report.marks {
-        write!(f, "{}", if sound { "1" } else { "0" })?;
+/// A block by its ranges, its verdict, and a 1 for each sound sample.
+#[derive(Drop)]
+pub struct Told<'a>(pub &'a BlockReport);
+
+impl fmt::Display for Told<'_> {
+    fn fmt<W: fmt::Write>(&self, f: &mut fmt::Formatter<W>) -> fmt::Result {
+        ranges(f, self.0.ranges)?;
+        write!(f, " {} ", self.0.verdict)?;
+        for sound in self.0.marks {
+            write!(f, "{}", u8::from(sound))?;
+        }
+        Ok(())
     }
-    Ok(())
 }

@@ -2,42 +2,32 @@
 // way in which outside vectors are run. docs/CONSOLE.md has the commands.
 #![tactic(auto)]
 
-mod bench;
-mod calls;
-mod circuit_calls;
 mod command;
+mod console;
 mod faults;
 mod law;
 mod lines;
+mod outlet;
 mod reply;
 mod tokens;
 
-use crate::bench::{Bench, OutletName};
-use crate::calls::carry_out;
-use crate::command::parse;
+use crate::console::Console;
 use crate::faults::ConsoleFault;
-use crate::reply::Reply;
-use std::alloc::{AllocError, Global};
+use crate::outlet::OutletLaw;
 use std::io;
 use std::io::{BufRead, BufReader};
 
-// What a line is answered: what its command gives, or that it is none.
-fn answered(heap: Global, bench: &mut Bench, line: &str) -> Result<Reply, AllocError> {
-    match parse(heap, line) {
-        Ok(command) => carry_out(heap, bench, command),
-        Err(ConsoleFault::NoCommand) => Ok(Reply::Error),
-        Err(ConsoleFault::Memory) => Err(AllocError),
-    }
-}
-
 fn main(rt: HostRuntime) -> io::Result<()> {
     let heap = rt.alloc();
-    let mut bench = Bench::new(OutletName::Linear);
+    let mut console = Console::new(heap, OutletLaw::Linear);
     for line in BufReader::new(heap, rt.stdin())?.lines(heap) {
         let line = line?;
         if !line.is_empty() {
-            let reply = answered(heap, &mut bench, line.as_str())?;
-            println!(rt; "{reply}")?;
+            match console.answer(line.as_str()) {
+                Ok(reply) => println!(rt; "{reply}")?,
+                Err(ConsoleFault::Memory(fault)) => return Err(fault.into()),
+                Err(fault) => println!(rt; "{fault}")?,
+            }
         }
     }
     Ok(())

@@ -1,15 +1,11 @@
-// What the console answers, as a line of text.
-use crate::lines::{block, hexadecimal, listed};
+// What the console answers to a command that it carries out, as a line of text.
+use crate::lines::{Hexadecimal, Listed, Told};
 use guards::locator::Found;
 use reception::Report;
 use std::fmt;
-use words::Refusal;
 
 #[derive(Drop)]
 pub enum Reply {
-    /// The line is no command.
-    Error,
-    Refused(Refusal),
     Word(u16),
     Value(i32),
     Words(Vec<u16>),
@@ -33,37 +29,23 @@ pub enum Reply {
 impl fmt::Display for Reply {
     fn fmt<W: fmt::Write>(&self, f: &mut fmt::Formatter<W>) -> fmt::Result {
         match self {
-            Reply::Error => write!(f, "error"),
-            Reply::Refused(refusal) => {
-                let number = refusal.number;
-                let place = refusal.place;
-                let layer = refusal.layer;
-                write!(f, "refuse {number} {place} {layer}")
-            }
             Reply::Word(word) => write!(f, "word {word}"),
             Reply::Value(value) => write!(f, "value {value}"),
-            Reply::Words(words) => listed(f, "words", words.as_slice()),
-            Reply::Values(values) => listed(f, "values", values.as_slice()),
+            Reply::Words(words) => write!(f, "words{}", Listed(words)),
+            Reply::Values(values) => write!(f, "values{}", Listed(values)),
             Reply::Ranges(basic, additional) => write!(f, "ranges {basic} {additional}"),
             Reply::Located(Found::Clean) => write!(f, "clean"),
             Reply::Located(Found::At(position)) => write!(f, "at {position}"),
             Reply::Located(Found::Nowhere) => write!(f, "nowhere"),
             Reply::Fresh => write!(f, "ok"),
             Reply::Held => write!(f, "held"),
-            Reply::Frame(octets) => {
-                write!(f, "frame ")?;
-                hexadecimal(f, octets.as_slice())
-            }
+            Reply::Frame(octets) => write!(f, "frame {}", Hexadecimal(octets)),
             Reply::Early => write!(f, "early"),
             Reply::Pair(words, report) => {
-                listed(f, "pair", words.as_slice())?;
-                block(f, &report.first)?;
-                block(f, &report.second)
+                write!(f, "pair{}", Listed(words))?;
+                write!(f, " | {} | {}", Told(&report.first), Told(&report.second))
             }
-            Reply::Log(length, octets) => {
-                write!(f, "log {length} ")?;
-                hexadecimal(f, octets.as_slice())
-            }
+            Reply::Log(length, octets) => write!(f, "log {length} {}", Hexadecimal(octets)),
         }
     }
 }

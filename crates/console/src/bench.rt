@@ -76,14 +76,21 @@ impl Bench {
     }
 
     // Keeps the report of a pair that is given.
-    fn noted(&mut self, outcome: Result<Option<Report>, PairFault>) -> Result<Option<Report>, PairFault> {
+    fn noted(
+        &mut self,
+        outcome: Result<Option<Report>, PairFault>,
+    ) -> Result<Option<Report>, PairFault> {
         if let Ok(Some(report)) = outcome {
             self.last = Some(report);
         }
         outcome
     }
 
-    pub(crate) fn take(&mut self, octets: &[u8], words: &mut [u16]) -> Result<Option<Report>, PairFault> {
+    pub(crate) fn take(
+        &mut self,
+        octets: &[u8],
+        words: &mut [u16],
+    ) -> Result<Option<Report>, PairFault> {
         let outcome = on!(self, circuit, circuit.take(octets, words));
         self.noted(outcome)
     }

@@ -4,6 +4,5 @@ pub mod Reading
 pub mod Same
 pub mod Whole
 -- what only the sheet needs
-mod Filled
 mod Cells
 mod Tables

@@ -74,6 +74,7 @@ impl Sheet {
     }
 
     // Writes a word into its cells.
+    #[tactic(auto, using(crate::proofs::Cells::over_more))]
     fn write_word(&mut self, run: &Run, word: u16)
         ensures { (c : ℕ) → c < 632 → slice_index self.new.cells c ≡ over run.now.start run.now.places.now word c (slice_index self.old.cells c) }
     {
@@ -97,6 +98,7 @@ impl Sheet {
     }
 
     // Writes the words of a letter, one into each half of a group.
+    #[tactic(auto, using(crate::proofs::Cells::halves_more))]
     fn write_words<L: WordLaw>(&mut self, letter: &Letter<L>, words: &[u16; HALF])
         ensures { (c : ℕ) → c < 632 → slice_index self.new.cells c ≡ over 0 letter.now.columns.now (slice_index words.now (half_of c)) (offset_in c) (slice_index self.old.cells c) }
     {

@@ -12,7 +12,7 @@ use Rattle.circuit.specs.History.{Event}
 use Rattle.circuit.specs.Promise.{pair_put, frame_sent, heard, arrival, pair_out, PairsAreTheStandards, Crossed, OneOctetDamaged, NoneDamaged, Dependable}
 use Rattle.circuit.proofs.Puts.{proper}
 use Rattle.circuit.proofs.Frames.{frames_are_the_standards}
-use Rattle.circuit.proofs.Receptions.{of_four, whole, given_at, as_many, first_early}
+use Rattle.circuit.proofs.Receptions.{whole, given_at, as_many, first_early}
 use Rattle.circuit.proofs.Fours.{four_are_the_pair}
 
 some_is : {X : Type 0} (a b : X) → ◌≡◌ {A = Option X} (Some a) (Some b) → a ≡ b
@@ -66,12 +66,13 @@ module _ (outlet : Meaning) (h : List Event) where
 -- four alike arrivals, one after the other
 same_four : (outlet : Meaning) (f g : ℕ → Arrival) (N : ℕ) → ((k : ℕ) → N ≤ k → k < N + 4 → f k ≡ g k) → pair_given outlet f N ≡ pair_given outlet g N
 same_four outlet f g N e =
-    sym (four_are_the_pair outlet f N)
-    ∙ ap (λ (a : Arrival). of_four outlet a (f (N + 1)) (f (N + 2)) (f (N + 3))) (e N (omega arith) (omega arith))
-    ∙ ap (λ (a : Arrival). of_four outlet (g N) a (f (N + 2)) (f (N + 3))) (e (N + 1) (omega arith) (omega arith))
-    ∙ ap (λ (a : Arrival). of_four outlet (g N) (g (N + 1)) a (f (N + 3))) (e (N + 2) (omega arith) (omega arith))
-    ∙ ap (λ (a : Arrival). of_four outlet (g N) (g (N + 1)) (g (N + 2)) a) (e (N + 3) (omega arith) (omega arith))
-    ∙ four_are_the_pair outlet g N
+    let first = e N (omega arith) (omega arith) in
+    let second = e (N + 1) (omega arith) (omega arith) in
+    let third = e (N + 2) (omega arith) (omega arith) in
+    let fourth = e (N + 3) (omega arith) (omega arith) in
+    let here = four_are_the_pair outlet f N in
+    let there = four_are_the_pair outlet g N in
+    cc
 
 -- what a crossing does to a pair is known for whatever pairs and arrivals there are
 pub dependable : OneOctetHardlyHarms → NoDamageNoHarm → (outlet : Meaning) → CellRule outlet → Wide outlet → (h : List Event) → Dependable outlet h

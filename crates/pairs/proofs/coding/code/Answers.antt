@@ -19,8 +19,9 @@ pub record Kept (g : GuardedBlock) (b : CodedBlock) : Type 0 where
 
 words_kept : (g : GuardedBlock) (b : CodedBlock) → Kept g b → word_in g ≡ words_of (code_of b)
 words_kept g b k =
-    ap (λ o. word_in (record { odd = o; even = g.even; checks = g.checks; five = g.five })) k.odd
-    ∙ ap (λ e. word_in (record { odd = b.odd; even = e; checks = g.checks; five = g.five })) k.even
+    let odd = k.odd in
+    let even = k.even in
+    cc
 
 -- a pair by its parts
 abbrev shaped : ℕ → (ℕ → ℕ) → (ℕ → ℕ) → ℕ → ℕ → Pair

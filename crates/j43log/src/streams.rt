@@ -19,17 +19,15 @@ const FRAMES_AFTER: u32 = 3;
 // The number by which the log names the one circuit.
 const CIRCUIT: u32 = 0;
 
-// Writes the lines of a pair.
+// Writes the lines of a pair; one above the highest that a log tells has none.
 fn write_lines(output: &mut impl Write, report: &Report, pair: u32) -> io::Result<()> {
     let mut lines = [0; LOG_OCTETS];
     let number = PairNumber {
         circuit: CIRCUIT,
         pair,
     };
-    match log(report, number, &mut lines) {
-        Ok(length) => output.write_all(&lines[..length]),
-        Err(_) => Ok(()),
-    }
+    let length = log(report, number, &mut lines).unwrap_or(0);
+    output.write_all(&lines[..length])
 }
 
 /// Logs each pair that the frames give.

@@ -68,7 +68,8 @@ impl Counts {
         }
         if let Some(report) = outcome.done {
             self.pairs += 1;
-            self.muted += u64::from(muted(report.first.verdict)) + u64::from(muted(report.second.verdict));
+            self.muted += u64::from(muted(report.first.verdict))
+                + u64::from(muted(report.second.verdict));
             self.unsound += unsound(&report.first.marks) + unsound(&report.second.marks);
         }
     }

@@ -4,8 +4,7 @@ ghost use Rattle.std.specs.Prelude.{◌≡◌, IfOk, Some, None};
 ghost use Rattle.frames.specs.Answers.{answer, reading};
 ghost use Rattle.reception.specs.Carried.{carried, carried_by};
 
-use blocks::{EvenWords, HALF, OddWords};
-use frames::{Frame, FrameFault, GuardedBlock};
+use frames::{Frame, FrameFault};
 
 /// What arrives of a frame: what it carries, nothing where it is lost. With an `Option` of a frame each of the three steps of a
 /// record would have a second arm that writes zeros, and be no plainer.
@@ -29,16 +28,9 @@ impl Arrived {
     pub fn lost() -> Arrived
         ensures { carried result ≡ carried_by None }
     {
-        let block = GuardedBlock {
-            odd: OddWords { words: [0; HALF] },
-            even: EvenWords { words: [0; HALF] },
-            checks: 0,
-        };
-        let frame = Frame {
-            ranges: 0,
-            first: block,
-            second: block,
-        };
-        Arrived { lost: true, frame }
+        Arrived {
+            lost: true,
+            frame: Frame::blank(),
+        }
     }
 }

@@ -52,6 +52,9 @@ module _ (m : Meaning) where
     named = rule.named;
   }
 
+  pub padded_wide : Wide m → Wide (padded m)
+  padded_wide w = record { low = w.low; high = w.high }
+
 abbrev pub outlet_meaning : OutletLaw → Meaning
 outlet_meaning Linear = linear
 outlet_meaning VariantB = padded variant_b
@@ -66,7 +69,7 @@ outlet_length VariantB = refl
 
 pub outlet_wide : (law : OutletLaw) → Wide (outlet_meaning law)
 outlet_wide Linear = linear_wide
-outlet_wide VariantB = gate_wide
+outlet_wide VariantB = padded_wide variant_b gate_wide
 
 abbrev pub law_meaning : Law → Meaning
 law_meaning (Outlet law) = outlet_meaning law

@@ -10,6 +10,7 @@ use circuit::{Sender, Sent};
 use frames::FRAME_OCTETS;
 use raw::{PAIR, PAIR_OCTETS, read_pair};
 use telling::Outcome;
+use words::Refusal;
 
 const SILENCE: [i16; PAIR] = [0; PAIR];
 
@@ -42,7 +43,7 @@ pub fn send(
         },
         Err(fault) => Outcome {
             done: put_silence(sender, frame),
-            refused: Some(fault.into()),
+            refused: Some(Refusal::from(fault)),
         },
     }
 }

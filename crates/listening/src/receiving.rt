@@ -11,7 +11,7 @@ use frames::FRAME_OCTETS;
 use raw::PAIR;
 use reception::Report;
 use telling::Outcome;
-use words::Linear;
+use words::{Linear, Refusal};
 
 // Counts a frame as lost, which is never refused.
 fn lose(receiver: &mut Receiver<Linear>, words: &mut [u16; PAIR]) -> Option<Report>
@@ -41,7 +41,7 @@ pub fn receive(
         },
         Err(fault) => Outcome {
             done: lose(receiver, words),
-            refused: Some(fault.into()),
+            refused: Some(Refusal::from(fault)),
         },
     }
 }

@@ -6,5 +6,5 @@ use Rattle.j41gate.proofs.streams.report.Goals as goal
 pub loop-pair-preserved : goal.loop-pair-preserved
 loop-pair-preserved g c =
     let counted =
-    counted_after c.loop-pair.tally c.note.new.self c.pass-outcome.result (zip_first c.loop-pair.pair-iterator).start c.loop-pair.invariant.2 c.note.ensures in
+    counted_after c.loop-pair.tally c.note.new.self c.match-outcome.outcome (zip_first c.loop-pair.pair-iterator).start c.loop-pair.invariant.2 c.note.ensures in
     search rules

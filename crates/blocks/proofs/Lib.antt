@@ -1,5 +1,4 @@
 pub mod Places
-pub mod Filled
 pub mod Peaked
 mod Made
 pub mod Ranging

@@ -12,21 +12,17 @@ pub(crate) const LINES: usize = 4;
 // The step of each line's sawtooth; the first line keeps to range 0.
 const LOUDNESS: [i16; LINES] = [7, 60, 120, 250];
 
-/// The samples of a pair on a line.
-pub(crate) fn signal(line: usize, pair: usize) -> [i16; PAIR]
-    requires one_of_four { line < 4 }
-    requires few_pairs { pair < 64 }
-{
-    let mut samples = [0; PAIR];
-    for (i, sample) in samples.iter_mut().enumerate() {
-        let step = (i * (line + 1) + 5 * pair) % 64;
-        *sample = (step as i16 - 32) * LOUDNESS[line];
-    }
-    samples
+/// A pair by its number and the line that it goes over.
+#[derive(Clone, Copy)]
+pub(crate) struct PairOn {
+    pub line: usize,
+    pub pair: usize,
+    ghost one_of_four: { line < 4 },
+    ghost few_pairs: { pair < 64 },
 }
 
 /// What became of a pair that was put, and of the frame that this let go.
-#[derive(Clone, Copy)]
+#[derive(Clone, Copy, PartialEq, Eq, Debug)]
 pub(crate) struct Turn {
     pub sent: Option<[u8; FRAME_OCTETS]>,
     pub words: [u16; PAIR],
@@ -44,69 +40,67 @@ impl Turn {
     }
 }
 
-/// Puts a pair; the frame that it lets go.
-pub(crate) fn put(
-    circuit: &mut Circuit<Linear>,
-    line: usize,
-    pair: usize,
-) -> Option<[u8; FRAME_OCTETS]>
-    requires one_of_four { line < 4 }
-    requires few_pairs { pair < 64 }
-{
-    let mut frame = [0; FRAME_OCTETS];
-    match circuit.put(&signal(line, pair), &mut frame) {
-        Ok(Sent::Written) => Some(frame),
-        _ => None,
-    }
-}
-
-// A frame after its way over the line; none where it is lost. The first line is sound, the second hurts one octet, the third
-// loses frames and the last hurts two octets.
-fn carried(line: usize, pair: usize, frame: &[u8; FRAME_OCTETS]) -> Option<[u8; FRAME_OCTETS]>
-    requires { pair < 64 }
-{
-    let mut came = *frame;
-    match (line, pair % 4) {
-        (1, 1) => came[pair] ^= 0xff,
-        (2, 2) => return None,
-        (3, 3) => {
-            came[pair] ^= 0x81;
-            came[pair + 12] ^= 0x42;
+impl PairOn {
+    /// Its samples.
+    pub(crate) fn signal(self) -> [i16; PAIR] {
+        let mut samples = [0; PAIR];
+        for (i, sample) in samples.iter_mut().enumerate() {
+            let step = (i * (self.line + 1) + 5 * self.pair) % 64;
+            *sample = (step as i16 - 32) * LOUDNESS[self.line];
         }
-        _ => {}
+        samples
     }
-    Some(came)
-}
 
-/// Hands over the frame that a pair let go, as it comes over the line.
-pub(crate) fn take(
-    circuit: &mut Circuit<Linear>,
-    line: usize,
-    pair: usize,
-    sent: Option<[u8; FRAME_OCTETS]>,
-) -> Turn
-    requires { pair < 64 }
-{
-    let mut words = [0; PAIR];
-    let report = match sent {
-        Some(frame) => match carried(line, pair, &frame) {
-            Some(came) => circuit.take(&came, &mut words).ok().flatten(),
-            None => circuit.lose(&mut words).ok().flatten(),
-        },
-        None => None,
-    };
-    Turn {
-        sent,
-        words,
-        report,
+    /// Puts it; the frame that it lets go.
+    pub(crate) fn put(self, circuit: &mut Circuit<Linear>) -> Option<[u8; FRAME_OCTETS]> {
+        let mut frame = [0; FRAME_OCTETS];
+        match circuit.put(&self.signal(), &mut frame) {
+            Ok(Sent::Written) => Some(frame),
+            _ => None,
+        }
     }
-}
 
-/// Both for a pair.
-pub(crate) fn cross(circuit: &mut Circuit<Linear>, line: usize, pair: usize) -> Turn
-    requires one_of_four { line < 4 }
-    requires few_pairs { pair < 64 }
-{
-    let sent = put(circuit, line, pair);
-    take(circuit, line, pair, sent)
+    // A frame after its way over the line; none where it is lost. The first line is sound, the second hurts one octet, the
+    // third loses frames and the last hurts two octets.
+    fn carried(self, frame: &[u8; FRAME_OCTETS]) -> Option<[u8; FRAME_OCTETS]> {
+        let PairOn { line, pair } = self;
+        let mut came = *frame;
+        match (line, pair % 4) {
+            (1, 1) => came[pair] ^= 0xff,
+            (2, 2) => return None,
+            (3, 3) => {
+                came[pair] ^= 0x81;
+                came[pair + 12] ^= 0x42;
+            }
+            _ => {}
+        }
+        Some(came)
+    }
+
+    /// Hands over the frame that it let go, as that comes over the line.
+    pub(crate) fn take(
+        self,
+        circuit: &mut Circuit<Linear>,
+        sent: Option<[u8; FRAME_OCTETS]>,
+    ) -> Turn {
+        let mut words = [0; PAIR];
+        let report = match sent {
+            Some(frame) => match self.carried(&frame) {
+                Some(came) => circuit.take(&came, &mut words).ok().flatten(),
+                None => circuit.lose(&mut words).ok().flatten(),
+            },
+            None => None,
+        };
+        Turn {
+            sent,
+            words,
+            report,
+        }
+    }
+
+    /// Both.
+    pub(crate) fn cross(self, circuit: &mut Circuit<Linear>) -> Turn {
+        let sent = self.put(circuit);
+        self.take(circuit, sent)
+    }
 }

@@ -6,4 +6,3 @@ pub mod Given
 pub mod Clearing
 pub mod Middles
 pub mod Nearness
-pub mod Made

@@ -1,8 +1,9 @@
 // Where the words of a frame lie on its sheet: the cells of one word, and the four letters A to D whose words fill the
 // halves of groups. All places are inside the sheet by type, so laying words out and collecting them asks nothing.
 ghost use Rattle.std.specs.Prelude.{◌≡◌, ℕ, ◌+◌, ◌<◌, ◌≤◌, length, slice_index};
-ghost use Rattle.frames.specs.Sheet.{start_of, columns_a, columns_b, columns_c, columns_d};
+ghost use Rattle.frames.specs.Sheet.{start_of};
 
+use std::marker::PhantomData;
 use words::{Additional, Basic, WordLaw};
 
 // All bits of a group but the last have a cell, and its second half begins after 40 of them.
@@ -40,14 +41,36 @@ pub(crate) const SECOND_CHECKS: Run = Run {
 };
 
 // One of the samples A to D, of which each half of a group has a word: where its bits lie in the half, bit 1 first, a column
-// for each bit of the law's words.
+// for each bit of the words of its law.
 #[derive(Drop)]
 pub(crate) struct Letter<'a, L: WordLaw> {
-    pub(crate) law: L,
     pub(crate) columns: &'a [usize],
-    ghost sized: { length columns.now ≡ (L.WordLaw.meaning law).bits },
+    pub(crate) law: PhantomData<L>,
+    ghost sized: { length columns.now ≡ L.WordLaw.BITS },
+    ghost few: { length columns.now ≤ 16 },
     ghost inside: { (k : ℕ) → slice_index columns.now k < 38 },
 }
+
+// A, B, C and D take two places each in turn, for bits k and k + 5 with k = 1 to 4; then come A5 A10 B5 C5 D5 D10.
+pub(crate) const A: Letter<Basic> = Letter {
+    columns: &[0, 8, 16, 24, 32, 1, 9, 17, 25, 33],
+    law: PhantomData,
+};
+
+pub(crate) const B: Letter<Additional> = Letter {
+    columns: &[2, 10, 18, 26, 34, 3, 11, 19, 27],
+    law: PhantomData,
+};
+
+pub(crate) const C: Letter<Additional> = Letter {
+    columns: &[4, 12, 20, 28, 35, 5, 13, 21, 29],
+    law: PhantomData,
+};
+
+pub(crate) const D: Letter<Basic> = Letter {
+    columns: &[6, 14, 22, 30, 36, 7, 15, 23, 31, 37],
+    law: PhantomData,
+};
 
 impl<'a, L: WordLaw> Letter<'a, L> {
     // The cells of its word in half a group, the halves counted over the whole sheet.
@@ -58,48 +81,7 @@ impl<'a, L: WordLaw> Letter<'a, L> {
     {
         Run {
             start: GROUP_CELLS * (i / 2) + SECOND_HALF * (i % 2),
-            places: self.columns,
-        }
-    }
-}
-
-// The four letters.
-#[derive(Drop)]
-pub(crate) struct Letters {
-    pub(crate) a: Letter<'static, Basic>,
-    pub(crate) b: Letter<'static, Additional>,
-    pub(crate) c: Letter<'static, Additional>,
-    pub(crate) d: Letter<'static, Basic>,
-}
-
-impl Letters {
-    // A, B, C and D take two places each in turn, for bits k and k + 5 with k = 1 to 4; then come A5 A10 B5 C5 D5 D10. A law's
-    // word length is the same in all its ranges, so the lowest, which every law has, stand for all.
-    pub(crate) fn new() -> Letters
-        ensures a { result.a.columns.now ≡ columns_a }
-        ensures b { result.b.columns.now ≡ columns_b }
-        ensures c { result.c.columns.now ≡ columns_c }
-        ensures d { result.d.columns.now ≡ columns_d }
-    {
-        let odd = Basic::new(0).unwrap();
-        let even = Additional::new(0, 0).unwrap();
-        Letters {
-            a: Letter {
-                law: odd,
-                columns: &[0, 8, 16, 24, 32, 1, 9, 17, 25, 33],
-            },
-            b: Letter {
-                law: even,
-                columns: &[2, 10, 18, 26, 34, 3, 11, 19, 27],
-            },
-            c: Letter {
-                law: even,
-                columns: &[4, 12, 20, 28, 35, 5, 13, 21, 29],
-            },
-            d: Letter {
-                law: odd,
-                columns: &[6, 14, 22, 30, 36, 7, 15, 23, 31, 37],
-            },
+            places: &self.columns[..L::BITS as usize],
         }
     }
 }

@@ -8,7 +8,7 @@ ghost use Rattle.frames.specs.Content.{pair_in, listed};
 ghost use Rattle.frames.specs.Sheet.{bit_of, start_of, half_of, offset_in, over, word_at};
 
 use crate::content::{Frame, GuardedBlock};
-use crate::letters::{FIRST_CHECKS, GROUP_CELLS, Letter, Letters, RANGES, Run, SECOND_CHECKS};
+use crate::letters::{A, B, C, D, FIRST_CHECKS, GROUP_CELLS, Letter, RANGES, Run, SECOND_CHECKS};
 use crate::line::FRAME_OCTETS;
 use blocks::{EvenWords, HALF, OddWords};
 use std::array;
@@ -47,12 +47,11 @@ impl Sheet {
     pub(crate) fn of_frame(frame: &Frame) -> Sheet
         ensures { (i : ℕ) → i < 640 → bit_of result.cells i ≡ carried (pair_in frame.now) (lies_at i) }
     {
-        let letters = Letters::new();
         let mut sheet = Sheet { cells: [0; CELLS] };
-        sheet.write_words(&letters.a, &frame.first.odd.words);
-        sheet.write_words(&letters.b, &frame.second.even.words);
-        sheet.write_words(&letters.c, &frame.first.even.words);
-        sheet.write_words(&letters.d, &frame.second.odd.words);
+        sheet.write_words(&A, &frame.first.odd.words);
+        sheet.write_words(&B, &frame.second.even.words);
+        sheet.write_words(&C, &frame.first.even.words);
+        sheet.write_words(&D, &frame.second.odd.words);
         sheet.write_word(&RANGES, frame.ranges);
         sheet.write_word(&FIRST_CHECKS, u16::from(frame.first.checks));
         sheet.write_word(&SECOND_CHECKS, u16::from(frame.second.checks));
@@ -111,7 +110,7 @@ impl Sheet {
     fn read_words<L: WordLaw>(&self, letter: &Letter<L>) -> [u16; HALF]
         ensures all { length result ≡ 16 }
         ensures value { (i : ℕ) → i < 16 → slice_index result i ≡ word_at self.now.cells (start_of i) letter.now.columns.now }
-        ensures small { (i : ℕ) → slice_index result i < 2 ^ (L.WordLaw.meaning letter.now.law).bits }
+        ensures small { (i : ℕ) → slice_index result i < 2 ^ L.WordLaw.BITS }
     {
         array::from_fn(|i| self.read_word(&letter.half(i)))
     }
@@ -149,24 +148,23 @@ impl Sheet {
     pub(crate) fn read(&self) -> Frame
         ensures { listed (pair_in result) ≡ listed (heard_by (bit_of self.now.cells)) }
     {
-        let letters = Letters::new();
         Frame {
             ranges: self.read_word(&RANGES),
             first: GuardedBlock {
                 odd: OddWords {
-                    words: self.read_words(&letters.a),
+                    words: self.read_words(&A),
                 },
                 even: EvenWords {
-                    words: self.read_words(&letters.c),
+                    words: self.read_words(&C),
                 },
                 checks: self.read_word(&FIRST_CHECKS) as u8,
             },
             second: GuardedBlock {
                 odd: OddWords {
-                    words: self.read_words(&letters.d),
+                    words: self.read_words(&D),
                 },
                 even: EvenWords {
-                    words: self.read_words(&letters.b),
+                    words: self.read_words(&B),
                 },
                 checks: self.read_word(&SECOND_CHECKS) as u8,
             },

@@ -18,7 +18,7 @@ const MOST_TOLD: u64 = 5;
 /// Tries the gate on every pair of samples, and reports.
 pub(crate) fn report<L: WordLaw>(rt: &HostRuntime, law: &L) -> io::Result<()> {
     let mut units = Units::new(rt.stdin());
-    let mut tally = Tally::new(law);
+    let mut tally = Tally::new::<L>();
     for (pair, octets) in (0..MOST_PAIRS).zip(&mut units) {
         let outcome = pass(law, &read_pair(&octets?));
         if let Err(fault) = outcome

@@ -6,7 +6,7 @@ use guards::ranges::Ranges;
 
 /// What is told of a block: its ranges, none where it is muted for a loss or its range word; its verdict; and which of its
 /// samples are sound.
-#[derive(Clone, Copy)]
+#[derive(Clone, Copy, PartialEq, Eq, Debug)]
 pub struct BlockReport {
     pub ranges: Option<Ranges>,
     pub verdict: Verdict,
@@ -14,7 +14,7 @@ pub struct BlockReport {
 }
 
 /// What is told of a pair.
-#[derive(Clone, Copy)]
+#[derive(Clone, Copy, PartialEq, Eq, Debug)]
 pub struct Report {
     pub first: BlockReport,
     pub second: BlockReport,

@@ -1,1 +1,2 @@
 mod Refusing
+pub mod Made

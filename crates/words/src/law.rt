@@ -15,12 +15,7 @@ pub trait WordLaw {
 
     ghost meaning: { Self → Meaning };
 
-    /// The word length in bits, by a law that is at hand.
-    final fn word_length(&self) -> u32
-        ensures { result ≡ (meaning self.now).bits }
-    {
-        Self::BITS
-    }
+    ghost length: { (s : Self) → BITS ≡ (meaning s).bits };
 
     /// The word of a value; refused exactly for a value outside.
     fn make(&self, value: i32) -> Result<u16, WordFault>
@@ -29,8 +24,6 @@ pub trait WordLaw {
     /// The middle of a word's cell; refused exactly for a word of no value.
     fn read(&self, word: u16) -> Result<i32, WordFault>
         ensures { answer result ≡ reading (meaning self.now) word };
-
-    ghost length: { (s : Self) → BITS ≡ (meaning s).bits };
 
     ghost cells: { (s : Self) → CellRule (meaning s) };
 }

@@ -1,6 +1,6 @@
 use Rattle.std.proofs.Common.{◌*◌, get_or, pos, rules}
 use Rattle.blocks.specs.Coding.{odd_samples}
-use Rattle.blocks.proofs.Filled.{made}
+use Rattle.words.proofs.Made.{made}
 use Rattle.blocks.proofs.encoder.odd_samples.Goals as goal
 
 pub returns : goal.returns

@@ -1,5 +1,5 @@
 use Rattle.std.proofs.Common.{◌≡◌, ℕ, ◌^◌, ◌<◌, length, get_or, subst, rules}
-use Rattle.blocks.proofs.Filled.{made}
+use Rattle.words.proofs.Made.{made}
 use Rattle.blocks.proofs.Made.{word_at, all_words, short_words}
 use Rattle.blocks.proofs.encoder.words_of.Goals as goal
 

@@ -1,6 +1,6 @@
 use Rattle.std.proofs.Common.{pos, rules}
 use Rattle.blocks.specs.Ranges.{difference_at, differences}
-use Rattle.blocks.proofs.Filled.{made}
+use Rattle.words.proofs.Made.{made}
 use Rattle.blocks.proofs.search.differences.Goals as goal
 
 pub returns : goal.returns

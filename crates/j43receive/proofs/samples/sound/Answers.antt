@@ -1,5 +1,5 @@
 use Rattle.std.proofs.Common.{ap, ◌∙◌, rules}
-use Rattle.raw.proofs.Made.{mapped}
+use Rattle.words.proofs.Made.{mapped}
 use Rattle.j43receive.specs.Samples.{sample_of, sample_octets}
 use Rattle.j43receive.proofs.samples.sound.Goals as goal
 

@@ -3,7 +3,7 @@ use lib.Signed.{mag}
 use Rattle.decoder.specs.Closeness.{StaysNear}
 use Rattle.decoder.specs.Samples.{pair_of}
 use Rattle.decoder.specs.Received.{received}
-use Rattle.decoder.proofs.Made.{made}
+use Rattle.words.proofs.Made.{each_made}
 use Rattle.decoder.proofs.Given.{muted_samples, heard_samples, samples_small}
 use Rattle.decoder.proofs.Nearness.{stays_near}
 use Rattle.decoder.proofs.received.ReceivedBlock.samples.Goals as goal
@@ -28,7 +28,7 @@ returns c =
     let shares = c.shares-shares.result in
     let at_side = c.sides-sides.ensures in
     let at_share = c.shares-shares.ensures in
-    let each = made (λ k ys. ys ≡ pair_of sides shares k) _ _ 16 (λ k ys q within call. search rules) pairs [] c.from_fn-pairs.ensures.items in
+    let each = each_made (λ k ys. ys ≡ pair_of sides shares k) _ _ 16 [] (λ k ys q within call. search rules) pairs c.from_fn-pairs.ensures.items in
     let value = c.copy_from_slice.ensures.after ∙ c.as_flattened.ensures.value ∙ heard_samples b next sides shares c.in-Some.ensures.0 at_side at_share pairs (search rules) each in
     record {
       value = value;

@@ -18,7 +18,7 @@ returns c =
     let value = seven_writes c.args.frame.now _ _ _ _
     c.write_words.new.self.cells c.write_words-2.new.self.cells c.write_words-3.new.self.cells c.write_words-4.new.self.cells
     c.write_word.new.self.cells c.write_word-2.new.self.cells cells _ _
-    c.new-letters.ensures.a c.new-letters.ensures.b c.new-letters.ensures.c c.new-letters.ensures.d c.from.ensures c.from-2.ensures
+    refl refl refl refl c.from.ensures c.from-2.ensures
     c.write_words.ensures c.write_words-2.ensures c.write_words-3.ensures c.write_words-4.ensures
     c.write_word.ensures c.write_word-2.ensures c.write_word-3.ensures in
     λ i h. ⊎_elim (λ s. row_of_cells (λ i. carried p (lies_at i)) cells value i h s) (λ s. spare_cell cells i s ∙ sym (spare_carried p i s)) (cases_lt (i % 80) 79)

@@ -7,6 +7,7 @@ ghost use Rattle.circuit.specs.Putting.{source_of, fresh_source, first_outside, 
 use crate::faults::PairFault;
 use frames::{CodedPair, FRAME_OCTETS, Frame, FrameFault};
 use pairs::{PAIR, Pair, code};
+use std::array;
 use words::{WordFault, WordLaw, expand, magnitude};
 
 // One more than the largest magnitude of a sample.
@@ -40,16 +41,12 @@ fn first_outside(values: &[i32]) -> Option<usize>
         .position(|value| magnitude(*value) >= MAGNITUDES)
 }
 
-// A pair of samples as values of a word law. A slice has no `map`; to make an array of it first would measure it twice.
+// A pair of samples as values of a word law.
 fn widen(samples: &[i16]) -> [i32; PAIR]
     requires { length samples.now ≡ 64 }
     ensures { result ≡ samples.now }
 {
-    let mut values = [0; PAIR];
-    for (i, sample) in samples.iter().enumerate() {
-        values[i] = i32::from(*sample);
-    }
-    values
+    array::from_fn(|i| i32::from(samples[i]))
 }
 
 impl Sender {

@@ -10,6 +10,7 @@ ghost use Rattle.words.specs.VariantB.{variant_b, gate_word};
 ghost use Rattle.j41gate.specs.Trial.{moved};
 
 use raw::PAIR;
+use std::array;
 use words::{VariantB, WordFault, compand, expand};
 
 // The word of the sample 0.
@@ -19,12 +20,7 @@ const SILENT_WORD: u16 = 0b0_001_0000000_1;
 pub(crate) fn widen(samples: &[i16; PAIR]) -> [i32; PAIR]
     ensures { result ≡ samples.now }
 {
-    let mut values = [0; PAIR];
-    // Tried by `map`: its calls are not known to be of numbers of 16 bits, so that the proof did not close.
-    for (i, sample) in samples.iter().enumerate() {
-        values[i] = i32::from(*sample);
-    }
-    values
+    array::from_fn(|i| i32::from(samples[i]))
 }
 
 // Variant B has no value that is not a sample.
@@ -32,12 +28,7 @@ fn narrow(values: &[i32; PAIR]) -> [i16; PAIR]
     requires { (i : ℕ) → i < 64 → FitsSigned w16 (slice_index_or values.now i (pos 0)) }
     ensures { result ≡ values.now }
 {
-    let mut samples = [0; PAIR];
-    // Tried by `map`: its calls are not known to be of numbers that fit, so that the proof did not close.
-    for (i, value) in values.iter().enumerate() {
-        samples[i] = *value as i16;
-    }
-    samples
+    array::from_fn(|i| values[i] as i16)
 }
 
 /// The words of a pair of samples, or words of silence where a sample has none. Whoever reads the words is within 16 of

@@ -1,16 +1,12 @@
-use Rattle.std.proofs.Common.{get_or, replicate, pos, arith, w16, w32, SFits, rules}
+use Rattle.std.proofs.Common.{ℕ, get_or, ℤ, pos, sym, refl, ◌∙◌, rules, w16}
 use Rattle.std.proofs.lemmas.Int.{to_z-of_z}
-use Rattle.j41gate.proofs.Copied.{copy_more, copy_all}
+use Rattle.std.proofs.lemmas.List.FromFn.{fill_by_all}
+use Rattle.words.proofs.Made.{made}
 use Rattle.j41gate.proofs.gate.narrow.Goals as goal
-
-pub loop-i-preserved : goal.loop-i-preserved
-loop-i-preserved c =
-    let v = get_or c.args.values.now c.loop-i.i (pos 0) in
-    let f : SFits w16 v = c.requires c.loop-i.i c.loop-i-test.true in
-    let g : SFits w32 v = search rules in
-    copy_more c.args.values.now c.loop-i.samples (replicate 64 (pos 0)) c.loop-i.i c.loop-i.invariant _ (pos 0) (omega arith) (omega arith)
-    (simp to_z-of_z)
 
 pub returns : goal.returns
 returns c =
-    copy_all c.args.values.now c.loop-i.samples (replicate 64 (pos 0)) c.loop-i.i c.loop-i.invariant (omega arith) (omega arith)
+    let xs = c.args.values.now in
+    let at : ℕ → ℤ = λ k. get_or xs k (pos 0) in
+    made _ _ at 64 (pos 0) (λ i y q k h. search (rules, to_z-of_z w16 (get_or xs i (pos 0)) (c.requires i k))) c.from_fn.result c.from_fn.ensures.items
+    ∙ sym (fill_by_all at xs 64 (pos 0) (search rules) (λ k h. refl))

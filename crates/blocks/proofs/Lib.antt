@@ -1,4 +1,3 @@
-pub mod Places
 pub mod Peaked
 mod Made
 pub mod Ranging

@@ -1,4 +1,3 @@
-mod Copied
 mod Counts
 mod Crossed
 mod Near

@@ -28,9 +28,7 @@ impl Arrived {
     pub fn lost() -> Arrived
         ensures { carried result ≡ carried_by None }
     {
-        Arrived {
-            lost: true,
-            frame: Frame::blank(),
-        }
+        let frame = Frame::blank();
+        Arrived { lost: true, frame }
     }
 }

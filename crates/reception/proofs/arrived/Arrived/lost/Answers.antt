@@ -4,4 +4,4 @@ use Rattle.reception.proofs.Silence.{nothing_heard}
 use Rattle.reception.proofs.arrived.Arrived.lost.Goals as goal
 
 pub returns : goal.returns
-returns c = ap (λ (l : Listed). (true, l)) (c.blank.ensures ∙ nothing_heard)
+returns c = ap (λ (l : Listed). (true, l)) (c.blank-frame.ensures ∙ nothing_heard)

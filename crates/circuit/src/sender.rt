@@ -74,8 +74,9 @@ impl Sender {
             None => Sent::Held,
             Some(held) => {
                 let own = code(&held, &pair);
-                // Refused only where the buffer holds no frame, and it was measured.
-                let _ = Frame::woven(&own, &self.one, &self.two).write(frame);
+                Frame::woven(&own, &self.one, &self.two)
+                    .write(frame)
+                    .unwrap();
                 self.two = self.one;
                 self.one = own;
                 Sent::Written

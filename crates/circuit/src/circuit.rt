@@ -19,6 +19,7 @@ pub struct Circuit<O> {
     pub(crate) receiver: Receiver<O>,
 }
 
+// Its calls hand on to its ends, which can be had apart; the clauses stand here too, since the promise is of these calls.
 impl<O: Outlet> Circuit<O> {
     /// A circuit before its first call. Whatever calls follow, in whatever order and with whatever they are handed, refused ones
     /// included: frames are the standard's, pairs are the standard's, sound samples stay close, one damaged octet mutes nothing,

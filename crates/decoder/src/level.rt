@@ -65,7 +65,8 @@ impl Level {
     }
 }
 
-// Samples are held within these.
+// Samples are held within these. They stay plain numbers, bounded by a clause: companding takes them so, and a type would be taken
+// off again at once.
 const LOWEST: i32 = -8192;
 
 const HIGHEST: i32 = 8191;

@@ -2,5 +2,4 @@ mod Counts
 mod Crossed
 mod Near
 mod Passing
-mod Tasks
 mod Within

@@ -16,7 +16,7 @@ use words::{VariantB, WordFault, compand, expand};
 // The word of the sample 0.
 const SILENT_WORD: u16 = 0b0_001_0000000_1;
 
-// A word law's values are 32 bits wide.
+// A word law's values are 32 bits wide. The sender widens a slice that it was handed by such a line too: no crate below both has samples.
 pub(crate) fn widen(samples: &[i16; PAIR]) -> [i32; PAIR]
     ensures { result ≡ samples.now }
 {

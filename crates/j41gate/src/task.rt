@@ -13,6 +13,7 @@ pub enum Task {
     Cross(Direction),
 }
 
+// No `FromStr`: an error of its own would only be dropped, since any other name is told the usage.
 fn named(name: &str) -> Option<Task>
     ensures { result ≡ by_name name.now }
 {

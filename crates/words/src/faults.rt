@@ -55,6 +55,7 @@ pub enum WordFault {
 
 impl WordFault {
     /// The same fault at another place, as at the index i of a list.
+    // An arm for each case, since callers and tests write a fault with its place in one value; a kind beside a place is no shorter.
     pub fn at(self, i: usize) -> WordFault
         ensures number { number_of result ≡ number_of self }
         ensures place { place_of result ≡ i }

@@ -26,9 +26,7 @@ const BASIC: [(i32, i32, u8); 7] = [
 #[test]
 fn basic_ranges(rt: HostRuntime) -> Result<(), Fail> {
     for (first, follower, basic) in BASIC {
-        let Some((r, _)) = ranges_of(first, 0, follower) else {
-            return Err(Fail::new("no block"))
-        };
+        let (r, _) = ranges_of(first, 0, follower).ok_or("no block")?;
         assert_eq!(rt; r, basic);
     }
     Ok(())

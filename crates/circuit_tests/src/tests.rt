@@ -19,7 +19,7 @@ fn four() -> [Circuit<Linear>; LINES] {
     array::from_fn(|_| Circuit::new(Linear))
 }
 
-// Puts a pair into each circuit, and then lets each take.
+// Puts a pair into each circuit, and then lets each take. By index: `from_fn` over lent circuits was tried, and did not prove.
 fn turns(circuits: &mut [Circuit<Linear>; LINES], pair: usize) -> [Turn; LINES]
     requires { pair < 64 }
 {

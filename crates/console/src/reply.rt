@@ -22,7 +22,7 @@ pub enum Reply {
     Early,
     /// The words of a pair, and the report on it.
     Pair(Vec<u16>, Report),
-    /// How many octets the lines of a log have, and its buffer.
+    /// How many octets the lines of a log have, and its whole buffer, which is shown too.
     Log(usize, Vec<u8>),
 }
 

@@ -28,9 +28,7 @@ fn received(samples: [i32; 33], guards: Found) -> Option<ReceivedBlock> {
 
 #[test]
 fn loud_samples_return(rt: HostRuntime) -> Result<(), Fail> {
-    let Some(block) = received(loud(), Found::Clean) else {
-        return Err(Fail::new("these are samples"));
-    };
+    let block = received(loud(), Found::Clean).ok_or("these are samples")?;
     let given = block.samples(&Follower::Sound(0));
     assert_eq!(rt; given[0], 8183, "8191 at range 4");
     assert_eq!(rt; given[1], 8191, "level 32864, held");
@@ -42,18 +40,14 @@ fn loud_samples_return(rt: HostRuntime) -> Result<(), Fail> {
 
 #[test]
 fn hurt_samples_are_concealed(rt: HostRuntime) -> Result<(), Fail> {
-    let Some(first) = received(loud(), Found::At(1)) else {
-        return Err(Fail::new("these are samples"));
-    };
+    let first = received(loud(), Found::At(1)).ok_or("these are samples")?;
     assert_eq!(rt;
         first.follower(),
         Follower::Concealed(32736),
         "sample 1 takes the level of sample 3"
     );
     assert_eq!(rt; first.samples(&Follower::Muted)[0], 8183);
-    let Some(fourth) = received(loud(), Found::At(4)) else {
-        return Err(Fail::new("these are samples"));
-    };
+    let fourth = received(loud(), Found::At(4)).ok_or("these are samples")?;
     assert_eq!(rt;
         fourth.samples(&Follower::Muted)[6],
         -1,

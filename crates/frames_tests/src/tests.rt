@@ -22,9 +22,7 @@ fn a_silent_frame(rt: HostRuntime) -> Result<(), Fail> {
         };
         assert_eq!(rt; *octet, expected);
     }
-    let Ok(frame) = Frame::read(&octets) else {
-        return Err(Fail::new("a silent frame is read"))
-    };
+    let frame = Frame::read(&octets)?;
     assert_eq!(rt; frame.ranges, SILENT_RANGES);
     Ok(())
 }

@@ -33,6 +33,7 @@ pub fn parities(odd: &[u16; 16], even: &[u16; 16]) -> u32
     ensures small { result < 2 ^ 24 }
 {
     let mut parities = 0;
+    // The tables are walked as they stand: constant tables of the groups are a rule of the project.
     for sample in ODD_GROUPS {
         parities = append_parity(parities, (odd[sample / 2] & ODD_BITS).count_ones());
     }

@@ -36,7 +36,7 @@ impl Tally {
     }
 
     /// Counts a pair by the outcome of its trial.
-    // Asked here and not held by ghost fields, since each tally that `noted` writes down would then carry proofs.
+    // Asked here and not held by ghost fields: tried, and each tally that `noted` writes down had to carry proofs.
     pub(crate) fn note(&mut self, outcome: Result<u32, WordFault>)
         requires few_pairs { self.old.pairs < 2 ^ 57 }
         requires few_words { self.old.words ≤ 64 * self.old.pairs }

@@ -6,8 +6,8 @@ ghost use Rattle.reception.specs.Carried.{carried, carried_by};
 
 use frames::{Frame, FrameFault};
 
-/// What arrives of a frame: what it carries, nothing where it is lost. With an `Option` of a frame each of the three steps of a
-/// record would have a second arm that writes zeros, and be no plainer.
+/// What arrives of a frame: what it carries, nothing where it is lost. One path with a flag: with an `Option` of a frame each of the
+/// three steps of a record would first have to put a blank one in the place of none.
 #[derive(Clone, Copy)]
 pub struct Arrived {
     pub lost: bool,

@@ -12,15 +12,24 @@ pub enum Unit {
     Frame,
 }
 
-/// Prints the name by which a user is told of it.
+impl Unit {
+    /// The name by which a user is told of it.
+    pub fn name(self) -> &'static str
+        ensures { result.now ≡ unit_name self }
+    {
+        match self {
+            Unit::Pair => "pair",
+            Unit::Frame => "frame",
+        }
+    }
+}
+
+/// Prints the name.
 impl fmt::Display for Unit {
     ghost output = { λ unit. Some (unit_name unit) };
 
     fn fmt<W: fmt::Write>(&self, f: &mut fmt::Formatter<W>) -> fmt::Result {
-        f.write_str(match self {
-            Unit::Pair => "pair",
-            Unit::Frame => "frame",
-        })
+        f.write_str(self.name())
     }
 }
 

@@ -14,17 +14,26 @@ pub enum Layer {
     Log,
 }
 
-/// Prints the name by which a user is told of it.
-impl fmt::Display for Layer {
-    ghost output = { λ layer. Some (layer_name layer) };
-
-    fn fmt<W: fmt::Write>(&self, f: &mut fmt::Formatter<W>) -> fmt::Result {
-        f.write_str(match self {
+impl Layer {
+    /// The name by which a user is told of it.
+    pub fn name(self) -> &'static str
+        ensures { result.now ≡ layer_name self }
+    {
+        match self {
             Layer::Word => "word",
             Layer::Frame => "frame",
             Layer::Pair => "pair",
             Layer::Log => "log",
-        })
+        }
+    }
+}
+
+/// Prints the name.
+impl fmt::Display for Layer {
+    ghost output = { λ layer. Some (layer_name layer) };
+
+    fn fmt<W: fmt::Write>(&self, f: &mut fmt::Formatter<W>) -> fmt::Result {
+        f.write_str(self.name())
     }
 }
 

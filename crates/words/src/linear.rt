@@ -35,7 +35,7 @@ impl WordLaw for Linear {
         if value >= 0 {
             Ok(value as u16)
         } else {
-            Ok((value + WORDS as i32) as u16)
+            Ok((value + i32::from(WORDS)) as u16)
         }
     }
 
@@ -44,9 +44,9 @@ impl WordLaw for Linear {
             return Err(WordFault::TooLong(0));
         }
         if word < WORDS / 2 {
-            Ok(word as i32)
+            Ok(i32::from(word))
         } else {
-            Ok(word as i32 - WORDS as i32)
+            Ok(i32::from(word) - i32::from(WORDS))
         }
     }
 }

@@ -27,9 +27,7 @@ const WIDEST: [(i32, u16, i32); 3] = [
 
 #[test]
 fn the_widest_basic_range(rt: HostRuntime) -> Result<(), Fail> {
-    let Some(law) = Basic::new(4) else {
-        return Err(Fail::new("range 4"))
-    };
+    let law = Basic::new(4).ok_or("range 4")?;
     for (value, word, back) in WIDEST {
         assert_eq!(rt; law.make(value), Ok(word));
         assert_eq!(rt; law.read(word), Ok(back));
@@ -44,9 +42,7 @@ fn ranges_outside_are_refused(rt: HostRuntime) -> Result<(), Fail> {
             && Additional::new(5, 0).is_none()
             && Additional::new(0, 3).is_none()
     );
-    let Some(law) = Additional::new(4, 2) else {
-        return Err(Fail::new("ranges 4 and 2"))
-    };
+    let law = Additional::new(4, 2).ok_or("ranges 4 and 2")?;
     assert_eq!(rt; law.make(-32766), Ok(511));
     Ok(())
 }

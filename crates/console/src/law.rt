@@ -1,5 +1,5 @@
 // A word law by its name on the console: an outlet's, `basic:R` or `add:R:A`. It makes and reads the words of the law named.
-ghost use Rattle.console.specs.Laws.{law_length, law_meaning, law_rule};
+ghost use Rattle.console.specs.Laws.{law_meaning, law_rule};
 
 use crate::faults::ConsoleFault;
 use crate::outlet::OutletLaw;
@@ -37,17 +37,23 @@ impl FromStr for Law {
 }
 
 impl WordLaw for Law {
-    // The longest: shorter words are held in as many bits.
+    // The longest; each law tells its own by `word_length`.
     const BITS: u32 = Linear::BITS;
-
-    ghost BITS = { 14 };
 
     ghost meaning = { law_meaning };
 
-    ghost length = { law_length };
-
     ghost cells = { law_rule };
 
+    fn word_length(&self) -> u32 {
+        match self {
+            Law::Outlet(law) => law.word_length(),
+            Law::Basic(law) => law.word_length(),
+            Law::Additional(law) => law.word_length(),
+        }
+    }
+
+    // Asked to be put in place, since each number of a list of words is made by it, twice.
+    #[inline(always)]
     fn make(&self, value: i32) -> Result<u16, WordFault> {
         match self {
             Law::Outlet(law) => law.make(value),
@@ -56,6 +62,7 @@ impl WordLaw for Law {
         }
     }
 
+    #[inline(always)]
     fn read(&self, word: u16) -> Result<i32, WordFault> {
         match self {
             Law::Outlet(law) => law.read(word),

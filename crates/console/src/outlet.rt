@@ -1,5 +1,5 @@
 // The laws that the receiver of the console's circuit can give words of, by their names: `linear` and `j41b`.
-ghost use Rattle.console.specs.Laws.{outlet_length, outlet_meaning, outlet_rule, outlet_wide};
+ghost use Rattle.console.specs.Laws.{outlet_meaning, outlet_rule, outlet_wide};
 
 use crate::faults::ConsoleFault;
 use std::str::FromStr;
@@ -24,17 +24,22 @@ impl FromStr for OutletLaw {
 }
 
 impl WordLaw for OutletLaw {
-    // The longest: shorter words are held in as many bits.
+    // The longest; each law tells its own by `word_length`.
     const BITS: u32 = Linear::BITS;
-
-    ghost BITS = { 14 };
 
     ghost meaning = { outlet_meaning };
 
-    ghost length = { outlet_length };
-
     ghost cells = { outlet_rule };
 
+    fn word_length(&self) -> u32 {
+        match self {
+            OutletLaw::Linear => Linear.word_length(),
+            OutletLaw::VariantB => VariantB.word_length(),
+        }
+    }
+
+    // Asked to be put in place, since each number of a list of words is made by it, twice.
+    #[inline(always)]
     fn make(&self, value: i32) -> Result<u16, WordFault> {
         match self {
             OutletLaw::Linear => Linear.make(value),
@@ -42,6 +47,7 @@ impl WordLaw for OutletLaw {
         }
     }
 
+    #[inline(always)]
     fn read(&self, word: u16) -> Result<i32, WordFault> {
         match self {
             OutletLaw::Linear => Linear.read(word),

@@ -82,13 +82,18 @@ impl<'a> Tokens<'a> {
         array::try_from_fn(|_| Ok(i32::from(self.parse::<i16>()?)))
     }
 
-    // So many bits, at most 32, the first one highest. The library alone would take a sign too.
+    // So many bits, at most 32, the first one highest. The library's reader would take a sign too, and testing the digits before it
+    // reads them was a third of a guard line's cost.
     pub(crate) fn bits(&mut self, count: usize) -> Result<u32, ConsoleFault> {
         let word = self.word()?;
-        if word.len() != count || !word.bytes().all(|b| b == b'0' || b == b'1') {
+        if word.len() != count {
             return Err(ConsoleFault::NoCommand);
         }
-        Ok(u32::from_str_radix(word, 2)?)
+        word.bytes().try_fold(0, |bits, byte| match byte {
+            b'0' => Ok(bits << 1),
+            b'1' => Ok(bits << 1 | 1),
+            _ => Err(ConsoleFault::NoCommand),
+        })
     }
 
     // Octets of two digits each, or a dash for none.

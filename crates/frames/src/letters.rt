@@ -4,7 +4,7 @@ ghost use Rattle.std.specs.Prelude.{◌≡◌, ℕ, ◌+◌, ◌<◌, ◌≤◌,
 ghost use Rattle.frames.specs.Sheet.{start_of};
 
 use std::marker::PhantomData;
-use words::{Additional, Basic, WordLaw};
+use words::{Additional, Basic, FixedLength};
 
 // All bits of a group but the last have a cell, and its second half begins after 40 of them.
 pub(crate) const GROUP_CELLS: usize = 79;
@@ -43,10 +43,10 @@ pub(crate) const SECOND_CHECKS: Run = Run {
 // One of the samples A to D, of which each half of a group has a word: where its bits lie in the half, bit 1 first, a column
 // for each bit of the words of its law.
 #[derive(Drop)]
-pub(crate) struct Letter<'a, L: WordLaw> {
+pub(crate) struct Letter<'a, L: FixedLength> {
     pub(crate) columns: &'a [usize],
     pub(crate) law: PhantomData<L>,
-    ghost sized: { length columns.now ≡ L.WordLaw.BITS },
+    ghost sized: { length columns.now ≡ L.FixedLength.LENGTH },
     ghost few: { length columns.now ≤ 16 },
     ghost inside: { (k : ℕ) → slice_index columns.now k < 38 },
 }
@@ -72,7 +72,7 @@ pub(crate) const D: Letter<Basic> = Letter {
     law: PhantomData,
 };
 
-impl<'a, L: WordLaw> Letter<'a, L> {
+impl<'a, L: FixedLength> Letter<'a, L> {
     // The cells of its word in half a group, the halves counted over the whole sheet.
     pub(crate) fn half(&self, i: usize) -> Run<'a>
         requires { i < 16 }
@@ -81,7 +81,7 @@ impl<'a, L: WordLaw> Letter<'a, L> {
     {
         Run {
             start: GROUP_CELLS * (i / 2) + SECOND_HALF * (i % 2),
-            places: &self.columns[..L::BITS as usize],
+            places: &self.columns[..L::LENGTH as usize],
         }
     }
 }

@@ -12,7 +12,7 @@ use crate::letters::{A, B, C, D, FIRST_CHECKS, GROUP_CELLS, Letter, RANGES, Run,
 use crate::line::FRAME_OCTETS;
 use blocks::{EvenWords, HALF, OddWords};
 use std::array;
-use words::WordLaw;
+use words::FixedLength;
 
 // A frame is 8 groups of 80 bits, which are 10 octets.
 const GROUPS: usize = 8;
@@ -98,7 +98,7 @@ impl Sheet {
 
     // Writes the words of a letter, one into each half of a group.
     #[tactic(auto, using(crate::proofs::Cells::halves_more))]
-    fn write_words<L: WordLaw>(&mut self, letter: &Letter<L>, words: &[u16; HALF])
+    fn write_words<L: FixedLength>(&mut self, letter: &Letter<L>, words: &[u16; HALF])
         ensures { (c : ℕ) → c < 632 → slice_index self.new.cells c ≡ over 0 letter.now.columns.now (slice_index words.now (half_of c)) (offset_in c) (slice_index self.old.cells c) }
     {
         for (i, word) in words.iter().enumerate() {
@@ -107,10 +107,10 @@ impl Sheet {
     }
 
     // Reads the words of a letter.
-    fn read_words<L: WordLaw>(&self, letter: &Letter<L>) -> [u16; HALF]
+    fn read_words<L: FixedLength>(&self, letter: &Letter<L>) -> [u16; HALF]
         ensures all { length result ≡ 16 }
         ensures value { (i : ℕ) → i < 16 → slice_index result i ≡ word_at self.now.cells (start_of i) letter.now.columns.now }
-        ensures small { (i : ℕ) → slice_index result i < 2 ^ L.WordLaw.BITS }
+        ensures small { (i : ℕ) → slice_index result i < 2 ^ L.FixedLength.LENGTH }
     {
         array::from_fn(|i| self.read_word(&letter.half(i)))
     }

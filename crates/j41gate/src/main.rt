@@ -11,6 +11,7 @@ use words::VariantB;
 
 mod crossing;
 mod gate;
+mod refused;
 mod streams;
 mod tally;
 mod task;

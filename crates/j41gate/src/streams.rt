@@ -1,12 +1,12 @@
 // The program's two loops over standard input, a pair at a time, so that a file of any length passes in constant memory
 // and a live stream is answered as it comes. What is done with each pair is proved elsewhere.
 use crate::crossing::{Direction, cross};
+use crate::refused::refused_pair;
 use crate::tally::Tally;
 use crate::trial::pass;
 use raw::{PAIR_OCTETS, Units, read_pair};
 use std::io;
 use std::io::Write;
-use telling::{RefusedUnit, Unit};
 use words::WordLaw;
 
 // No input has more octets than a `u64` can count.
@@ -18,14 +18,13 @@ const MOST_TOLD: u64 = 5;
 /// Tries the gate on every pair of samples, and reports.
 pub(crate) fn report<L: WordLaw>(rt: &HostRuntime, law: &L) -> io::Result<()> {
     let mut units = Units::new(rt.stdin());
-    let mut tally = Tally::new::<L>();
+    let mut tally = Tally::new(law);
     for (pair, octets) in (0..MOST_PAIRS).zip(&mut units) {
         let outcome = pass(law, &read_pair(&octets?));
         if let Err(fault) = outcome
             && tally.refused < MOST_TOLD
         {
-            let told = RefusedUnit::new(Unit::Pair, pair, fault.into());
-            println!(rt; "{told}")?;
+            println!(rt; "{}", refused_pair(pair, fault))?;
         }
         tally.note(outcome);
     }
@@ -46,8 +45,7 @@ pub(crate) fn cross_all(rt: &HostRuntime, direction: Direction) -> io::Result<u6
         let mut octets = octets?;
         if let Err(fault) = cross(direction, &mut octets) {
             refused += 1;
-            let told = RefusedUnit::new(Unit::Pair, pair, fault.into());
-            eprintln!(rt; "{told}")?;
+            eprintln!(rt; "{}", refused_pair(pair, fault))?;
         }
         output.write_all(&octets)?;
     }

@@ -22,12 +22,12 @@ pub struct Tally {
 }
 
 impl Tally {
-    /// Nothing tried yet, under this law.
-    pub fn new<L: WordLaw>() -> Tally
-        ensures { result ≡ fresh L.WordLaw.BITS }
+    /// Nothing tried yet.
+    pub fn new<L: WordLaw>(law: &L) -> Tally
+        ensures { result ≡ fresh (L.WordLaw.meaning law.now).bits }
     {
         Tally {
-            bits: L::BITS,
+            bits: law.word_length(),
             pairs: 0,
             words: 0,
             refused: 0,

@@ -11,11 +11,11 @@ pub trait WordLaw {
     /// The word length in bits.
     const BITS: u32;
 
-    ghost BITS: { ℕ };
-
     ghost meaning: { Self → Meaning };
 
-    ghost length: { (s : Self) → BITS ≡ (meaning s).bits };
+    /// The word length of this law, for code that is generic in the law. Laws of one type may have several.
+    fn word_length(&self) -> u32
+        ensures { result ≡ (meaning self.now).bits };
 
     /// The word of a value; refused exactly for a value outside.
     fn make(&self, value: i32) -> Result<u16, WordFault>
@@ -26,6 +26,16 @@ pub trait WordLaw {
         ensures { answer result ≡ reading (meaning self.now) word };
 
     ghost cells: { (s : Self) → CellRule (meaning s) };
+}
+
+/// A law whose type tells the word length, so that code can be generic in it: all laws of the type have this one.
+pub trait FixedLength: WordLaw {
+    /// The word length in bits.
+    const LENGTH: u32;
+
+    ghost LENGTH: { ℕ };
+
+    ghost length: { (s : Self) → LENGTH ≡ (Self.WordLaw.meaning s).bits };
 }
 
 /// A law that has every sample, -8192 to 8191, among its values: what a receiver may write.

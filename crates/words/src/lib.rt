@@ -13,7 +13,7 @@ mod signs;
 mod variant_b;
 
 pub use faults::{Layer, Refusal, WordFault};
-pub use law::{Outlet, WordLaw};
+pub use law::{FixedLength, Outlet, WordLaw};
 pub use linear::Linear;
 pub use lists::{compand, expand};
 pub use ranged::{Additional, Basic};

@@ -4,7 +4,7 @@ ghost use Rattle.words.specs.Linear.{linear};
 ghost use Rattle.words.specs.LinearRule.{linear_rule, linear_wide};
 
 use crate::faults::WordFault;
-use crate::law::{Outlet, WordLaw};
+use crate::law::{FixedLength, Outlet, WordLaw};
 
 /// Words that are the values themselves.
 #[derive(Clone, Copy)]
@@ -20,13 +20,13 @@ const WORDS: u16 = 16384;
 impl WordLaw for Linear {
     const BITS: u32 = 14;
 
-    ghost BITS = { 14 };
-
     ghost meaning = { λ _. linear };
 
-    ghost length = { λ _. refl };
-
     ghost cells = { λ _. linear_rule };
+
+    fn word_length(&self) -> u32 {
+        Self::BITS
+    }
 
     fn make(&self, value: i32) -> Result<u16, WordFault> {
         if value < LOWEST || value > HIGHEST {
@@ -49,6 +49,14 @@ impl WordLaw for Linear {
             Ok(i32::from(word) - i32::from(WORDS))
         }
     }
+}
+
+impl FixedLength for Linear {
+    const LENGTH: u32 = Self::BITS;
+
+    ghost LENGTH = { 14 };
+
+    ghost length = { λ _. refl };
 }
 
 impl Outlet for Linear {

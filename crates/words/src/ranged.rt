@@ -5,7 +5,7 @@ ghost use Rattle.words.specs.Signed.{basic, additional};
 ghost use Rattle.words.specs.SignRule.{basic_rule, additional_rule};
 
 use crate::faults::WordFault;
-use crate::law::WordLaw;
+use crate::law::{FixedLength, WordLaw};
 use crate::signed::{make_signed, read_signed};
 
 // Half the words of each law: the codes of one sign.
@@ -36,13 +36,13 @@ impl Basic {
 impl WordLaw for Basic {
     const BITS: u32 = 10;
 
-    ghost BITS = { 10 };
-
     ghost meaning = { λ s. basic s.range };
 
-    ghost length = { λ _. refl };
-
     ghost cells = { λ s. basic_rule s.range };
+
+    fn word_length(&self) -> u32 {
+        Self::BITS
+    }
 
     fn make(&self, value: i32) -> Result<u16, WordFault> {
         make_signed(BASIC_HALF, self.range, value)
@@ -51,6 +51,14 @@ impl WordLaw for Basic {
     fn read(&self, word: u16) -> Result<i32, WordFault> {
         read_signed(BASIC_HALF, self.range, word)
     }
+}
+
+impl FixedLength for Basic {
+    const LENGTH: u32 = Self::BITS;
+
+    ghost LENGTH = { 10 };
+
+    ghost length = { λ _. refl };
 }
 
 /// The additional law: 9 bits, width 2^(r+a+1) in half sample units, for a basic range r of 0 to 4 and an additional
@@ -87,13 +95,13 @@ impl Additional {
 impl WordLaw for Additional {
     const BITS: u32 = 9;
 
-    ghost BITS = { 9 };
-
     ghost meaning = { λ s. additional s.basic_range s.range };
 
-    ghost length = { λ _. refl };
-
     ghost cells = { λ s. additional_rule s.basic_range s.range };
+
+    fn word_length(&self) -> u32 {
+        Self::BITS
+    }
 
     fn make(&self, value: i32) -> Result<u16, WordFault> {
         make_signed(ADDITIONAL_HALF, self.exponent(), value)
@@ -102,4 +110,12 @@ impl WordLaw for Additional {
     fn read(&self, word: u16) -> Result<i32, WordFault> {
         read_signed(ADDITIONAL_HALF, self.exponent(), word)
     }
+}
+
+impl FixedLength for Additional {
+    const LENGTH: u32 = Self::BITS;
+
+    ghost LENGTH = { 9 };
+
+    ghost length = { λ _. refl };
 }

@@ -5,7 +5,7 @@ ghost use Rattle.words.specs.VariantB.{variant_b, code_of, first_of, step_of, pa
 ghost use Rattle.words.specs.GateRule.{gate_rule, gate_wide};
 
 use crate::faults::WordFault;
-use crate::law::{Outlet, WordLaw};
+use crate::law::{FixedLength, Outlet, WordLaw};
 use crate::signs::magnitude;
 
 /// The words that neighbours exchange.
@@ -77,13 +77,13 @@ fn parity_of(front: u32) -> u32
 impl WordLaw for VariantB {
     const BITS: u32 = 12;
 
-    ghost BITS = { 12 };
-
     ghost meaning = { λ _. variant_b };
 
-    ghost length = { λ _. refl };
-
     ghost cells = { λ _. gate_rule };
+
+    fn word_length(&self) -> u32 {
+        Self::BITS
+    }
 
     fn make(&self, value: i32) -> Result<u16, WordFault> {
         let size = magnitude(value);
@@ -113,6 +113,14 @@ impl WordLaw for VariantB {
             Ok(-((first + step - (step - 1) / 2) as i32))
         }
     }
+}
+
+impl FixedLength for VariantB {
+    const LENGTH: u32 = Self::BITS;
+
+    ghost LENGTH = { 12 };
+
+    ghost length = { λ _. refl };
 }
 
 impl Outlet for VariantB {

@@ -6,3 +6,4 @@ pub mod Whole
 -- what only the sheet needs
 mod Cells
 mod Tables
+mod Vectors

@@ -1,10 +1,10 @@
 -- What a frame's octets carry is what they were made of; undamaged frames read back as the pairs that were sent.
-use Rattle.std.proofs.Common.{◌≡◌, ℕ, ◌+◌, ◌-◌, ◌/◌, ◌%◌, ◌^◌, ◌<◌, ◌≤◌, cond, eqb, ltb, ◌⊎◌, sym, ap, ◌∙◌, subst, inl, inr, add-sub_cancel, arith}
+use Rattle.std.proofs.Common.{◌≡◌, ℕ, ◌+◌, ◌-◌, ◌/◌, ◌%◌, ◌^◌, ◌<◌, ◌≤◌, cond, eqb, ltb, ◌⊎◌, List, sym, refl, ap, ◌∙◌, subst, inl, inr, add-sub_cancel, arith}
 use Rattle.std.proofs.lemmas.Bool.{le-ltb, cond-false}
 use Rattle.guards.specs.Bits.{bit_in}
 use Rattle.guards.specs.Parities.{bits_of}
 use Rattle.frames.specs.Places.{Holds, sample_bit, range_bit, check_bit, service_bit, spare_bit, IsBlock, IsSample, delay, travels, lies, lies_at, index}
-use Rattle.frames.specs.Frame.{Pair, WellCoded, SamePair, carried, octets_of, bit_at, heard, woven, frame_of, blank, before, ReadsBack, ThreeFramesDecide}
+use Rattle.frames.specs.Frame.{Pair, WellCoded, SamePair, carried, octets_of, bit_at, heard, woven, frame_of, blank, before, heard_pair, ReadsBack, ThreeFramesDecide}
 use Rattle.guards.specs.Rows.{number_same}
 use Rattle.frames.proofs.Rows.{number_of_bits, read_back}
 use Rattle.frames.proofs.Turns.{LiesThere, sample_lies, check_lies, range_lies}
@@ -83,4 +83,16 @@ three_frames_decide f g N e = record {
   words = λ block n i s. ap (λ o. (heard o).word block n) (e (N + delay block n) (omega arith) (omega arith));
   range_word = ap (λ o. (heard o).ranges) (e N (omega arith) (omega arith));
   check_words = λ block i. ap (λ o. (heard o).checks block) (e N (omega arith) (omega arith));
+}
+
+-- a pair heard from its three frames: the weaving is undone by the same weaving
+gathered : (frames : ℕ → List ℕ) (N block n d : ℕ) → (d ≡ 1) ⊎ (d ≡ 2) → (heard (frames (N + d))).word block n ≡ cond (eqb d 1) ((heard (frames (N + 1))).word block n) ((heard (frames (N + 2))).word block n)
+gathered frames N block n d (inl e) = subst (λ (d : ℕ). (heard (frames (N + d))).word block n ≡ cond (eqb d 1) ((heard (frames (N + 1))).word block n) ((heard (frames (N + 2))).word block n)) (sym e) refl
+gathered frames N block n d (inr e) = subst (λ (d : ℕ). (heard (frames (N + d))).word block n ≡ cond (eqb d 1) ((heard (frames (N + 1))).word block n) ((heard (frames (N + 2))).word block n)) (sym e) refl
+
+pub heard_woven : (frames : ℕ → List ℕ) (N : ℕ) → SamePair (heard_pair frames N) (woven (heard (frames N)) (heard (frames (N + 1))) (heard (frames (N + 2))))
+heard_woven frames N = record {
+  words = λ block n i s. gathered frames N block n (delay block n) (delays block n);
+  range_word = refl;
+  check_words = λ block i. refl;
 }

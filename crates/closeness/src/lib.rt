@@ -19,13 +19,13 @@ pub struct Bounds {
     pub last: u32,
 }
 
-// A width, two to the power of a range.
+// A width, two to the power of a range. By a shift: the library's `pow` takes half as many instructions again in `Bounds::of`.
 fn width(range: u8) -> u32
     requires { range ≤ 6 }
     ensures value { result ≡ 2 ^ range }
     ensures small { result ≤ 64 }
 {
-    2u32.pow(u32::from(range))
+    1 << range
 }
 
 impl Bounds {

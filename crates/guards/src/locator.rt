@@ -26,8 +26,8 @@ pub fn locate<C: CheckCode>(code: &C, syndrome: u32) -> Found
         return Found::Clean;
     }
     let positions = code.positions();
-    match (0..positions).find(|place| code.syndrome(1 << *place) == syndrome) {
-        Some(place) => Found::At(positions - place),
+    match (1..positions + 1).find(|k| code.syndrome(1 << (positions - *k)) == syndrome) {
+        Some(k) => Found::At(k),
         None => Found::Nowhere,
     }
 }

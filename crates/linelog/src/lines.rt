@@ -29,7 +29,14 @@ type Text = ArrayString<LOG_OCTETS>;
 fn sound_samples(block: &BlockReport) -> u8
     ensures { result ≡ sound_samples block.now.marks }
 {
-    block.marks.iter().filter(|mark| **mark).count() as u8
+    // A loop, since `filter(..).count()` of the marks took a third of a log's instructions.
+    let mut sound = 0;
+    for mark in &block.marks {
+        if *mark {
+            sound += 1;
+        }
+    }
+    sound
 }
 
 // A number, and a space behind it.

@@ -83,7 +83,7 @@ impl<'a> Tokens<'a> {
     }
 
     // So many bits, at most 32, the first one highest. The library's reader would take a sign too, and testing the digits before it
-    // reads them was a third of a guard line's cost.
+    // reads them was a fifth of a guard line's cost.
     pub(crate) fn bits(&mut self, count: usize) -> Result<u32, ConsoleFault> {
         let word = self.word()?;
         if word.len() != count {

@@ -29,7 +29,7 @@ type Text = ArrayString<LOG_OCTETS>;
 fn sound_samples(block: &BlockReport) -> u8
     ensures { result ≡ sound_samples block.now.marks }
 {
-    // A loop, since `filter(..).count()` of the marks took a third of a log's instructions.
+    // A loop, since `filter(..).count()` of the marks took nearly half of a log's instructions.
     let mut sound = 0;
     for mark in &block.marks {
         if *mark {
